@@ -1,0 +1,2 @@
+-- The packed numbers that C gets.
+pub mod Packed

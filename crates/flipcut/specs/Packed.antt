@@ -1,0 +1,27 @@
+-- The packed number of a check: "bit 63 clear is success, set is refusal. Refusal: number in bits 0 to 7, place in bits 8 to 62.
+-- Check: n in bits 0 to 15, m in bits 16 to 31." include/flipcut.h unpacks it by `unpacked`.
+use mathlib.Core.Bool.{cond}
+use Prim.Native.Nat.{ℕ, _+_, _*_, _/_, _%_, _^_}
+use lib.Dec.{eqb}
+use Rattle.record.specs.declared.Refusal.{Refusal}
+use Rattle.matrix.specs.declared.Checked.{Checked}
+use Rattle.matrix.specs.declared.Checked.the-variants.{Taken, Refused}
+use Rattle.matrix.specs.Check.{Returned}
+
+abbrev pub packedRefusal : Refusal → ℕ
+packedRefusal why = 2 ^ 63 + (why .number + 256 * why .place)
+
+abbrev pub packed : Checked → ℕ
+packed (Taken n m) = n + 65536 * m
+packed (Refused why) = packedRefusal why
+
+-- The bits of a packed number from `low` on, `width` of them.
+abbrev pub bits : ℕ → ℕ → ℕ → ℕ
+bits v low width = v / 2 ^ low % 2 ^ width
+
+-- The number, the place, n and m of a packed check.
+unfoldable pub unpacked : ℕ → Returned
+unpacked v =
+    cond (eqb (bits v 63 1) 1)
+    (record { number = bits v 0 8; place = bits v 8 55; n = 0; m = 0 })
+    (record { number = 0; place = 0; n = bits v 0 16; m = bits v 16 16 })

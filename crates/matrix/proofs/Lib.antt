@@ -1,0 +1,6 @@
+-- Laws that other crates cite: of the check, and of file and content.
+pub mod Judging
+pub mod Passing
+pub mod Taken
+pub mod Encoding
+pub mod Places

@@ -1,0 +1,77 @@
+-- The operation "check a matrix": refusals 1 to 8 in document 01's order, "within a record by number".
+use mathlib.Core.Bool.{Bool, _||_, _&&_, not, cond}
+use mathlib.Core.List.{List}
+use Prim.Native.Nat.{ℕ, zero, suc, _+_}
+use lib.Dec.{ltb, eqb}
+use Rattle.taxa.specs.Sets.{_∩_, within, all}
+use Rattle.record.specs.Bytes.{numberAt}
+use Rattle.record.specs.Records as records
+use Rattle.record.specs.Records.{recordOf, refused, step, judged, onward, nothingAfter}
+use Rattle.record.specs.declared.Cursor.{Cursor}
+use Rattle.record.specs.declared.Passed.{Passed}
+use Rattle.record.specs.declared.Passed.the-variants.{At}
+use Rattle.record.specs.declared.Passed.the-variants as passed
+use Rattle.matrix.specs.declared.Column.{Column}
+use Rattle.matrix.specs.declared.Checked.{Checked}
+use Rattle.matrix.specs.declared.Checked.the-variants.{Taken, Refused}
+use Rattle.matrix.specs.Matrix.{columnAt}
+
+-- "n is 0 or above 64" (3), "m above 256" (4), at the head.
+unfoldable pub headJudged : ℕ → ℕ → Cursor → Passed
+headJudged n m next =
+    cond (eqb n 0 || ltb 64 n) (passed.Refused (refused 3 0))
+    (cond (ltb 256 m) (passed.Refused (refused 4 0))
+    (At next))
+
+unfoldable pub headPassed : List ℕ → Passed
+headPassed file =
+    judged (step file 0 (recordOf records.matrixHead)) (λ at next.
+    headJudged (numberAt 2 file at) (numberAt 2 file (at + 2)) next)
+
+-- "Weight 0" (5), "a taxon n or above in a set" (6), "a taxon in both 1-set and 0-set" (7), at the column; `known` are the n taxa.
+unfoldable pub columnJudged : ℕ → ℕ → Column → Cursor → Passed
+columnJudged known place c next =
+    cond (eqb (c .weight) 0) (passed.Refused (refused 5 place))
+    (cond (within (c .ones) known && within (c .zeros) known)
+    (cond (eqb (c .ones ∩ c .zeros) 0) (At next) (passed.Refused (refused 7 place)))
+    (passed.Refused (refused 6 place)))
+
+unfoldable pub columnPassed : List ℕ → ℕ → Cursor → Passed
+columnPassed file known here =
+    judged (step file (here .at) (recordOf records.column)) (λ at next. columnJudged known (here .at) (columnAt file at) next)
+
+unfoldable pub columnsPassed : List ℕ → ℕ → ℕ → Cursor → Passed
+columnsPassed file known zero here = At here
+columnsPassed file known (suc m) here = onward (columnPassed file known here) (columnsPassed file known m)
+
+unfoldable pub endPassed : List ℕ → Cursor → Passed
+endPassed file here = judged (step file (here .at) (recordOf records.matrixEnd)) (λ at after. nothingAfter file after)
+
+-- The whole file: head, m columns, end.
+unfoldable pub filePassed : List ℕ → Passed
+filePassed file =
+    onward (headPassed file) (λ first. onward (columnsPassed file (all (numberAt 2 file 4)) (numberAt 2 file 6) first) (endPassed file))
+
+abbrev pub answered : ℕ → ℕ → Passed → Checked
+answered n m (At here) = Taken n m
+answered n m (passed.Refused why) = Refused why
+
+-- What the check answers: the n and m of the head, or the refusal.
+unfoldable pub checked : List ℕ → Checked
+checked file = answered (numberAt 2 file 4) (numberAt 2 file 6) (filePassed file)
+
+-- Document 01's numbers for each case: "a refusal returns its number and place, 0 for every other number"; "success returns 0, place 0
+-- and, for the check, n and m".
+pub record Returned : Type 0 where
+  pub number : ℕ
+  pub place : ℕ
+  pub n : ℕ
+  pub m : ℕ
+
+abbrev pub returned : Checked → Returned
+returned (Taken n m) = record { number = 0; place = 0; n = n; m = m }
+returned (Refused why) = record { number = why .number; place = why .place; n = 0; m = 0 }
+
+-- The numbers that the check of a file returns.
+abbrev pub checkNumbers : List ℕ → Returned
+checkNumbers file = returned (checked file)

@@ -1,0 +1,3 @@
+-- Matrix files: what they hold, and which are taken.
+pub mod Matrix
+pub mod Check

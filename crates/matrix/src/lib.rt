@@ -1,0 +1,162 @@
+// A matrix file: one head, m columns, one end. The operation "check a matrix", and the columns of a file that it takes.
+// Promises: every byte string is taken with its n and m or refused with document 01's number and place; file and content
+// determine each other. Rests on taxa and record.
+use record::Cursor;
+use record::Passed;
+use record::Record;
+use record::Refusal;
+use record::Step;
+use record::number::u16_at;
+use record::number::u64_at;
+ghost use mathlib.Core.Path.{_≡_};
+ghost use Prim.Native.Nat.{_+_, _*_, _≤_};
+ghost use lib.ListN.{length};
+ghost use Rattle.taxa.specs.Sets as sets;
+ghost use Rattle.matrix.specs.Matrix.{columnAt, columnIn};
+ghost use Rattle.matrix.specs.Check as check;
+
+pub struct Column {
+    pub weight: u16,
+    pub ones: u64,
+    pub zeros: u64,
+}
+
+// What the check of a matrix answers: n and m, or the refusal.
+pub enum Checked {
+    Taken(u16, u16),
+    Refused(Refusal),
+}
+
+impl Column {
+    // The column whose payload starts at a place.
+    fn read(file: &[u8], at: usize) -> Self
+        requires { ⌜ at + 18 ≤ length (now file) ⌝ }
+        ensures { λ r. ⌜ r ≡ columnAt (now (file .entry)) at ⌝ }
+    {
+        Column {
+            weight: u16_at(file, at),
+            ones: u64_at(file, at + 2),
+            zeros: u64_at(file, at + 10),
+        }
+    }
+
+    // A column's own refusals, by number; `all` is the set of the n taxa.
+    fn judge(self, all: u64, place: usize, next: Cursor) -> Passed
+        ensures { λ r. ⌜ r ≡ check.columnJudged all place self next ⌝ }
+    {
+        if self.weight == 0 {
+            return Passed::Refused(Refusal { number: 5, place });
+        }
+        if !taxa::subset(self.ones, all) {
+            return Passed::Refused(Refusal { number: 6, place });
+        }
+        if !taxa::subset(self.zeros, all) {
+            return Passed::Refused(Refusal { number: 6, place });
+        }
+        if taxa::common(self.ones, self.zeros) != 0 {
+            return Passed::Refused(Refusal { number: 7, place });
+        }
+        Passed::At(next)
+    }
+}
+
+// The head's own refusals, by number.
+fn judge_head(n: u16, m: u16, next: Cursor) -> Passed
+    ensures { λ r. ⌜ r ≡ check.headJudged n m next ⌝ }
+{
+    if n == 0 {
+        return Passed::Refused(Refusal {
+            number: 3,
+            place: 0,
+        });
+    }
+    if 64 < n {
+        return Passed::Refused(Refusal {
+            number: 3,
+            place: 0,
+        });
+    }
+    if 256 < m {
+        return Passed::Refused(Refusal {
+            number: 4,
+            place: 0,
+        });
+    }
+    Passed::At(next)
+}
+
+fn pass_head(file: &[u8]) -> Passed
+    ensures { λ r. ⌜ r ≡ check.headPassed (now (file .entry)) ⌝ }
+{
+    let step = Cursor::start().read(file, Record::of(Record::MATRIX_HEAD));
+    let Step::Payload(at, next) = step else {
+        return Passed::Refused(step.refusal());
+    };
+    judge_head(u16_at(file, at), u16_at(file, at + 2), next)
+}
+
+fn pass_column(here: Cursor, file: &[u8], all: u64) -> Passed
+    ensures { λ r. ⌜ r ≡ check.columnPassed (now (file .entry)) all here ⌝ }
+{
+    let step = here.read(file, Record::of(Record::COLUMN));
+    let Step::Payload(at, next) = step else {
+        return Passed::Refused(step.refusal());
+    };
+    Column::read(file, at).judge(all, here.at, next)
+}
+
+fn pass_columns(here: Cursor, file: &[u8], all: u64, m: u16) -> Passed
+    ensures { λ r. ⌜ r ≡ check.columnsPassed (now (file .entry)) all m here ⌝ }
+{
+    let mut cursor = here;
+    let mut left = m;
+    while left > 0 {
+        let passed = pass_column(cursor, file, all);
+        let Passed::At(next) = passed else {
+            return passed;
+        };
+        cursor = next;
+        left -= 1;
+    }
+    Passed::At(cursor)
+}
+
+// The end record, and nothing after it.
+fn pass_end(here: Cursor, file: &[u8]) -> Passed
+    ensures { λ r. ⌜ r ≡ check.endPassed (now (file .entry)) here ⌝ }
+{
+    let step = here.read(file, Record::of(Record::MATRIX_END));
+    let Step::Payload(_, after) = step else {
+        return Passed::Refused(step.refusal());
+    };
+    after.nothing_after(file)
+}
+
+// The operation "check a matrix".
+pub fn check(file: &[u8]) -> Checked
+    ensures { λ r. ⌜ (r ≡ check.checked (now (file .entry))) × (check.returned r ≡ check.checkNumbers (now (file .entry))) ⌝ }
+{
+    let head = pass_head(file);
+    let Passed::At(first) = head else {
+        return Checked::Refused(head.refusal());
+    };
+    let n = u16_at(file, 4);
+    let m = u16_at(file, 6);
+    let columns = pass_columns(first, file, taxa::all(n as u32), m);
+    let Passed::At(end) = columns else {
+        return Checked::Refused(columns.refusal());
+    };
+    let last = pass_end(end, file);
+    let Passed::At(_) = last else {
+        return Checked::Refused(last.refusal());
+    };
+    Checked::Taken(n, m)
+}
+
+// Column c of a file that the check takes with more than c columns.
+pub fn column_in(file: &[u8], c: usize) -> Column
+    requires { ⌜ 30 + 22 * c ≤ length (now file) ⌝ }
+    ensures { λ r. ⌜ r ≡ columnIn (now (file .entry)) c ⌝ }
+{
+    Column::read(file, 12 + 22 * c)
+}

@@ -1,0 +1,3 @@
+-- Numbers as bytes, and records.
+pub mod Bytes
+pub mod Records
