@@ -7,7 +7,7 @@ use mathlib.Core.Logic.{_≢_}
 use Prim.Native.Nat.{ℕ, _+_, _-_, _^_, _<_, _≤_}
 use native.Mathlib.Nat.{add-assoc}
 use native.Mathlib.Omega.{arith}
-use lib.Dec.{ltb, eqb, lit<}
+use lib.Dec.{ltb, eqb, lit<, lit≤}
 use lib.ListN.{length, take, drop, take-append-drop, length-append, length-drop}
 use lib.Seq.{drop-drop}
 use borrow.Author.Tests.{lt-ltb, le-ltb, eq-eqb, ne-eqb, ltb-false, eqb-true}
@@ -72,10 +72,10 @@ held-in file at it = go (ltb (left file at) 4) (eqb (numberAt 2 file (at + 2)) (
 pub held : {file : List ℕ} {at : ℕ} {it : Record} {b : ℕ} {next : Cursor} → Payload b next ≡ step file at it → Held file at it b next
 held {file} {at} {it} e = rw (← e) at (held-in file at it)
 
--- A step moves on by the record's length, or is refused at the record's start, by some number.
+-- A step moves on by the record's length, or is refused at the record's start, by 1 or 2.
 abbrev pub EndsBy : ℕ → Record → Step → Type 0
 EndsBy at it (Payload b next) = next .at ≡ at + 4 + it .length
-EndsBy at it (Refused why) = (why .place ≡ at) × (0 < why .number)
+EndsBy at it (Refused why) = (why .place ≡ at) × (0 < why .number) × (why .number ≤ 2)
 
 -- What holds of both ways a test can go holds of what it comes to.
 pub either-way : {A : Type 0} (P : A → Type 0) (b : Bool) {x y : A} → P x → P y → P (cond b x y)
@@ -85,10 +85,10 @@ either-way P false p q = q
 pub step-ends : (file : List ℕ) (at : ℕ) (it : Record) → EndsBy at it (step file at it)
 unfolding step
 step-ends file at it =
-    either-way (EndsBy at it) (ltb (left file at) 4) (refl, lit< tt)
+    either-way (EndsBy at it) (ltb (left file at) 4) (refl, lit< tt, lit≤ tt)
     (either-way (EndsBy at it) (eqb (numberAt 2 file (at + 2)) (it .kind) && eqb (numberAt 2 file at) (it .length))
-    (either-way (EndsBy at it) (ltb (left file at - 4) (it .length)) (refl, lit< tt) refl)
-    (refl, lit< tt))
+    (either-way (EndsBy at it) (ltb (left file at - 4) (it .length)) (refl, lit< tt, lit≤ tt) refl)
+    (refl, lit< tt, lit≤ tt))
 
 -- ---- a file and the records that stand in it
 

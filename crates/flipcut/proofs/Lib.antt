@@ -1,0 +1,2 @@
+-- Unpacking gives back what was packed.
+pub mod Unpacking

@@ -1,0 +1,59 @@
+/* FlipCut for C: what the static library libflipcut.a exports.
+ *
+ * Each function answers one packed 64-bit number. Where bit 63 is set the
+ * file was refused, and flipcut_number and flipcut_place say why and where
+ * (the table of document 01). Where it is clear the call succeeded, and the
+ * functions named below take the result apart.
+ *
+ * A file is a pointer and a length in bytes. The pointer is never null, not
+ * even for a length of 0. Nothing is written through it and nothing is kept.
+ */
+#ifndef FLIPCUT_H
+#define FLIPCUT_H
+
+#include <stdbool.h>
+#include <stddef.h>
+#include <stdint.h>
+
+#ifdef __cplusplus
+extern "C" {
+#endif
+
+/* Checks a matrix file. Refusals: 1 to 8. Success: flipcut_taxa, flipcut_columns. */
+uint64_t flipcut_check(const uint8_t *file, size_t len);
+
+#ifdef __cplusplus
+}
+#endif
+
+/* The bits of a packed number from `low` on, `width` of them. */
+static inline uint64_t flipcut_bits(uint64_t packed, unsigned low, unsigned width) {
+    return (packed >> low) & ((UINT64_C(1) << width) - 1);
+}
+
+/* Any function: whether it refused. */
+static inline bool flipcut_refused(uint64_t packed) {
+    return flipcut_bits(packed, 63, 1) == 1;
+}
+
+/* Any function: the number of the refusal, 0 on success. */
+static inline unsigned flipcut_number(uint64_t packed) {
+    return flipcut_refused(packed) ? (unsigned)flipcut_bits(packed, 0, 8) : 0;
+}
+
+/* Any function: the place in the file that was refused, 0 on success. */
+static inline uint64_t flipcut_place(uint64_t packed) {
+    return flipcut_refused(packed) ? flipcut_bits(packed, 8, 55) : 0;
+}
+
+/* flipcut_check: the number of taxa n, 0 on a refusal. */
+static inline unsigned flipcut_taxa(uint64_t packed) {
+    return flipcut_refused(packed) ? 0 : (unsigned)flipcut_bits(packed, 0, 16);
+}
+
+/* flipcut_check: the number of columns m, 0 on a refusal. */
+static inline unsigned flipcut_columns(uint64_t packed) {
+    return flipcut_refused(packed) ? 0 : (unsigned)flipcut_bits(packed, 16, 16);
+}
+
+#endif

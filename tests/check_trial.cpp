@@ -1,0 +1,109 @@
+// Compares flipcut_check, called as C calls it, with the independent check.
+//   check_trial FOLDER [COUNT]   COUNT random cases of each kind; FOLDER takes what differs
+#include <cstdio>
+#include <cstdlib>
+#include <string>
+
+#include "flipcut.h"
+#include "gen/damage.h"
+#include "gen/matrices.h"
+#include "oracle/matrix.h"
+#include "specimens.h"
+#include "tally.h"
+
+namespace {
+
+using oracle::Bytes;
+using oracle::CheckOutcome;
+
+// As C calls it. Rattle takes no null pointer, and an empty vector may have one.
+std::uint64_t called(const Bytes& file) {
+    static const std::uint8_t nothing = 0;
+    return flipcut_check(file.empty() ? &nothing : file.data(), file.size());
+}
+
+// Through the header's functions.
+CheckOutcome unpacked(std::uint64_t packed) {
+    CheckOutcome outcome;
+    outcome.refusal.number = flipcut_number(packed);
+    outcome.refusal.place = flipcut_place(packed);
+    outcome.n = flipcut_taxa(packed);
+    outcome.m = flipcut_columns(packed);
+    return outcome;
+}
+
+// The packed number itself: no bit beside the fields is set.
+std::uint64_t packed_number(const CheckOutcome& outcome) {
+    if (outcome.refusal.refused())
+        return (std::uint64_t{1} << 63) | (std::uint64_t{outcome.refusal.place} << 8) | outcome.refusal.number;
+    return (std::uint64_t{outcome.m} << 16) | outcome.n;
+}
+
+std::string text(const CheckOutcome& outcome) {
+    if (outcome.refusal.refused())
+        return "refused " + std::to_string(outcome.refusal.number) + " at " + std::to_string(outcome.refusal.place);
+    return "taken n " + std::to_string(outcome.n) + " m " + std::to_string(outcome.m);
+}
+
+void compare(Tally& tally, const Bytes& file) {
+    const CheckOutcome expected = oracle::check(file);
+    const std::uint64_t packed = called(file);
+    const CheckOutcome found = unpacked(packed);
+    if (!(found == expected)) tally.differ("expected " + text(expected) + ", found " + text(found), file);
+    if (packed != packed_number(expected)) tally.differ("bits beside the fields of the packed number", file);
+    tally.agreed(expected.refusal.number);
+}
+
+void specimen_cases(Tally& tally) {
+    for (const Specimen& specimen : specimens()) {
+        if (unpacked(called(specimen.file)).refusal != specimen.refusal)
+            tally.differ("specimen " + specimen.name + " is not as document 01 says", specimen.file);
+        compare(tally, specimen.file);
+    }
+}
+
+// A file of each m for the smallest n and the largest two.
+void every_size(Tally& tally, gen::Random& random) {
+    for (unsigned n : {1u, 63u, 64u})
+        for (unsigned m = 0; m <= 256; ++m)
+            compare(tally, oracle::matrix_file(gen::random_matrix(random, n, m, gen::random_style(random))));
+}
+
+void every_prefix_and_byte(Tally& tally, gen::Random& random) {
+    for (unsigned n : {1u, 3u, 8u, 9u, 63u, 64u})
+        for (unsigned m : {0u, 1u, 2u, 7u}) {
+            const Bytes file = oracle::matrix_file(gen::random_matrix(random, n, m, gen::random_style(random)));
+            for (const Bytes& other : gen::prefixes(file)) compare(tally, other);
+            for (const Bytes& other : gen::byte_changes(file)) compare(tally, other);
+        }
+    // The largest file, where a column's place needs more than a byte.
+    const Bytes largest = oracle::matrix_file(gen::random_matrix(random, 64, 256, gen::Style{}));
+    for (const Bytes& other : gen::prefixes(largest)) compare(tally, other);
+}
+
+void random_cases(Tally& tally, gen::Random& random, unsigned long count) {
+    for (unsigned long k = 0; k < count; ++k) {
+        const oracle::Matrix matrix = gen::random_matrix(random);
+        compare(tally, gen::random_bytes(random));
+        compare(tally, gen::damaged(random, oracle::matrix_file(matrix)));
+        compare(tally, gen::unlawful_matrix(random, matrix));
+    }
+}
+
+}  // namespace
+
+int main(int argc, char** argv) {
+    if (argc < 2) {
+        std::fprintf(stderr, "usage: check_trial FOLDER [COUNT]\n");
+        return 2;
+    }
+    const unsigned long count = argc > 2 ? std::strtoul(argv[2], nullptr, 10) : 5000;
+    Tally tally("check", argv[1]);
+    gen::Random random(1);
+    specimen_cases(tally);
+    every_size(tally, random);
+    every_prefix_and_byte(tally, random);
+    random_cases(tally, random, count);
+    tally.finish({0, 1, 2, 3, 4, 5, 6, 7, 8});
+    return 0;
+}

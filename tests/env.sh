@@ -1,0 +1,42 @@
+# Sourced by the scripts that compile or run something beside the proofs. It sets
+#   host_cxx   the compiler for this machine
+#   cc, cxx    the compilers for programs that link what Rattle compiles, which is x86-64 code
+#   run        the words before such a program: none, or the toolchain's emulator
+#   run_rattle the words before a program of target/bin: as rt itself runs it
+# and installs what is missing from Debian's packages.
+
+machine=$(uname -m)
+
+command -v rt >/dev/null || { echo "rt, the Rattle toolchain's command, is not in PATH" >&2; exit 1; }
+kit=${RATTLE_HOME:-$(dirname "$(dirname "$(readlink -f "$(command -v rt)")")")}
+tools=$kit/on/$machine/toolchain
+
+# Installs a package where its command is missing.
+need() { # COMMAND PACKAGE
+    command -v "$1" >/dev/null && return
+    [ "$(id -u)" = 0 ] || { echo "$1 is missing: install Debian's package $2" >&2; exit 1; }
+    echo "installing $2"
+    apt-get update -qq >&2 && DEBIAN_FRONTEND=noninteractive apt-get install -y -qq --no-install-recommends "$2" >/dev/null ||
+        { echo "Debian's package $2 could not be installed" >&2; exit 1; }
+}
+
+need g++ g++
+host_cxx=g++
+case $machine in
+x86_64)
+    cc=gcc cxx=g++ run=()
+    ;;
+aarch64)
+    need x86_64-linux-gnu-g++ g++-x86-64-linux-gnu
+    cc=x86_64-linux-gnu-gcc cxx=x86_64-linux-gnu-g++ run=("$tools/bin/qemu-x86_64")
+    ;;
+*)
+    echo "no way is known to run x86-64 code on this machine, $machine" >&2
+    exit 1
+    ;;
+esac
+run_rattle=(${run[@]+"${run[@]}"} "$tools/lib/ld-linux-x86-64.so.2" --library-path "$tools/lib")
+
+# Static, so that an emulated program needs no library of its own kind of machine.
+c_flags=(-std=c11 -O2 -Wall -Wextra -Werror -static)
+cxx_flags=(-std=c++17 -O2 -Wall -Wextra -Werror -static)

@@ -1,0 +1,94 @@
+#include "matrices.h"
+
+namespace gen {
+
+using oracle::all_taxa;
+using oracle::Column;
+using oracle::Matrix;
+using oracle::TaxonSet;
+
+namespace {
+
+std::uint64_t random_weight(Random& random, Weights weights) {
+    switch (weights) {
+        case Weights::one: return 1;
+        case Weights::light: return random.between(1, 4);
+        case Weights::heavy: return random.between(60000, 65535);
+        case Weights::any: return random.chance(10) ? 65535 : random.between(1, 65535);
+    }
+    return 1;
+}
+
+// Each taxon with the chance given.
+TaxonSet random_set(Random& random, unsigned n, unsigned percent) {
+    TaxonSet set = 0;
+    for (unsigned i = 0; i < n; ++i)
+        if (random.chance(percent)) set |= oracle::only(i);
+    return set;
+}
+
+TaxonSet random_interval(Random& random, unsigned n) {
+    const unsigned first = static_cast<unsigned>(random.below(n));
+    const unsigned longest = static_cast<unsigned>(random.chance(70) ? n / 3 + 1 : n);
+    const unsigned past = first + static_cast<unsigned>(random.between(1, longest));
+    return all_taxa(past < n ? past : n) & ~all_taxa(first);
+}
+
+// The 1s of a column before unknown entries are taken out.
+TaxonSet random_ones(Random& random, unsigned n, Shape shape, const std::vector<TaxonSet>& clades) {
+    if (shape == Shape::intervals) return random_interval(random, n);
+    if (shape == Shape::free || clades.empty()) return random_set(random, n, static_cast<unsigned>(random.between(10, 90)));
+    const TaxonSet clade = clades[random.below(clades.size())];
+    return shape == Shape::tree ? clade : clade ^ random_set(random, n, 6);
+}
+
+}  // namespace
+
+std::vector<TaxonSet> random_clades(Random& random, unsigned n) {
+    std::vector<TaxonSet> clades;
+    std::vector<TaxonSet> waiting{all_taxa(n)};
+    while (!waiting.empty()) {
+        const TaxonSet clade = waiting.back();
+        waiting.pop_back();
+        if (oracle::size(clade) < 2) continue;
+        clades.push_back(clade);
+        TaxonSet half = clade & random.bits();
+        if (random.chance(30)) half = oracle::only(oracle::lowest(clade));
+        // An empty half leaves the clade a star.
+        if (half == 0 || half == clade) continue;
+        waiting.push_back(half);
+        waiting.push_back(clade & ~half);
+    }
+    return clades;
+}
+
+Style random_style(Random& random) {
+    const unsigned known[] = {100, 100, 80, 50, 20, 8};
+    Style style;
+    style.shape = static_cast<Shape>(random.below(4));
+    style.weights = static_cast<Weights>(random.below(4));
+    style.known_percent = known[random.below(6)];
+    return style;
+}
+
+Matrix random_matrix(Random& random, unsigned n, unsigned m, const Style& style) {
+    Matrix matrix;
+    matrix.n = n;
+    const std::vector<TaxonSet> clades = random_clades(random, n);
+    for (unsigned c = 0; c < m; ++c) {
+        const TaxonSet known = random_set(random, n, style.known_percent);
+        const TaxonSet ones = random_ones(random, n, style.shape, clades);
+        matrix.columns.push_back(Column{random_weight(random, style.weights), ones & known, known & ~ones});
+    }
+    return matrix;
+}
+
+Matrix random_matrix(Random& random) {
+    const unsigned taxa[] = {4, 6, 8, 12, 20, 64};
+    const unsigned columns[] = {3, 6, 12, 30, 256};
+    const unsigned n = static_cast<unsigned>(random.between(1, taxa[random.below(6)]));
+    const unsigned m = static_cast<unsigned>(random.between(0, columns[random.below(5)]));
+    return random_matrix(random, n, m, random_style(random));
+}
+
+}  // namespace gen

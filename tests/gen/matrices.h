@@ -1,0 +1,37 @@
+// Random matrices that the check takes.
+#pragma once
+
+#include <vector>
+
+#include "../oracle/matrix.h"
+#include "random.h"
+
+namespace gen {
+
+// How the 1s of the columns relate.
+enum class Shape {
+    free,        // each entry by itself: conflicts everywhere
+    tree,        // each column a clade of one tree: no conflict
+    noisy_tree,  // the same with some entries turned over
+    intervals,   // runs of neighbouring taxa
+};
+
+enum class Weights { one, light, heavy, any };
+
+struct Style {
+    Shape shape = Shape::free;
+    Weights weights = Weights::one;
+    unsigned known_percent = 100;  // the rest of the entries is unknown
+};
+
+Style random_style(Random& random);
+
+oracle::Matrix random_matrix(Random& random, unsigned n, unsigned m, const Style& style);
+
+// Any size from 1x0 to 64x256, small ones more often, in any style.
+oracle::Matrix random_matrix(Random& random);
+
+// The clades of a random tree over n taxa that have two or more taxa, the whole first.
+std::vector<oracle::TaxonSet> random_clades(Random& random, unsigned n);
+
+}  // namespace gen

@@ -1,0 +1,63 @@
+#include "matrix.h"
+
+namespace oracle {
+
+namespace {
+
+// Order of the head's own refusals: by number, so an n that is refused hides an m that would be.
+unsigned read_head(RecordReader& reader, unsigned& m) {
+    reader.open(Kind::matrix_head);
+    const unsigned n = static_cast<unsigned>(reader.take(2));
+    m = static_cast<unsigned>(reader.take(2));
+    if (n == 0 || n > 64) refuse(3, reader.place());
+    if (m > 256) refuse(4, reader.place());
+    return n;
+}
+
+Column read_column(RecordReader& reader, unsigned n) {
+    reader.open(Kind::column);
+    Column column{};
+    column.weight = reader.take(2);
+    column.ones = reader.take(8);
+    column.zeros = reader.take(8);
+    if (column.weight == 0) refuse(5, reader.place());
+    if (!within(column.ones | column.zeros, all_taxa(n))) refuse(6, reader.place());
+    if ((column.ones & column.zeros) != 0) refuse(7, reader.place());
+    return column;
+}
+
+}  // namespace
+
+Matrix read_matrix(const Bytes& file) {
+    RecordReader reader(file);
+    Matrix matrix;
+    unsigned m = 0;
+    matrix.n = read_head(reader, m);
+    for (unsigned c = 0; c < m; ++c) matrix.columns.push_back(read_column(reader, matrix.n));
+    reader.open(Kind::matrix_end);
+    reader.finish();
+    return matrix;
+}
+
+CheckOutcome check(const Bytes& file) {
+    CheckOutcome outcome;
+    try {
+        const Matrix matrix = read_matrix(file);
+        outcome.n = matrix.n;
+        outcome.m = static_cast<unsigned>(matrix.columns.size());
+    } catch (const Refusal& refusal) {
+        outcome.refusal = refusal;
+    }
+    return outcome;
+}
+
+Bytes matrix_file(const Matrix& matrix) {
+    Bytes file;
+    put_record(file, Kind::matrix_head, {{2, matrix.n}, {2, matrix.columns.size()}});
+    for (const Column& column : matrix.columns)
+        put_record(file, Kind::column, {{2, column.weight}, {8, column.ones}, {8, column.zeros}});
+    put_record(file, Kind::matrix_end, {});
+    return file;
+}
+
+}  // namespace oracle

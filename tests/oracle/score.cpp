@@ -1,0 +1,53 @@
+#include "score.h"
+
+#include <algorithm>
+
+namespace oracle {
+
+namespace {
+
+// The clusters of the tree: its groups, and each single taxon.
+std::vector<TaxonSet> nodes_of(const AnswerValue& value) {
+    std::vector<TaxonSet> nodes;
+    for (std::size_t k = 0; k < value.group_count; ++k) nodes.push_back(value.groups[k].taxa);
+    for (unsigned taxon = 0; taxon < value.n; ++taxon) nodes.push_back(only(taxon));
+    return nodes;
+}
+
+struct Distance {
+    std::uint64_t raises;
+    std::uint64_t lowers;
+};
+
+Distance distance(const Column& column, TaxonSet cluster) {
+    return {column.weight * size(column.zeros & cluster), column.weight * size(column.ones & ~cluster)};
+}
+
+// The least distance counts; among equal ones the one with fewest raises.
+bool counts_before(const Distance& x, const Distance& y) {
+    const std::uint64_t of_x = x.raises + x.lowers, of_y = y.raises + y.lowers;
+    return of_x != of_y ? of_x < of_y : x.raises < y.raises;
+}
+
+}  // namespace
+
+ScoreOutcome score(const Bytes& matrix_file, const Bytes& answer_file) {
+    ScoreOutcome outcome;
+    try {
+        const Matrix matrix = read_matrix(matrix_file);
+        const AnswerValue tree = read_answer(answer_file).value;
+        if (matrix.n != tree.n || matrix.columns.size() != tree.m) refuse(15, 0);
+        for (const Column& column : matrix.columns) {
+            std::vector<Distance> distances;
+            for (TaxonSet node : nodes_of(tree)) distances.push_back(distance(column, node));
+            const Distance least = *std::min_element(distances.begin(), distances.end(), counts_before);
+            outcome.raises += least.raises;
+            outcome.lowers += least.lowers;
+        }
+    } catch (const Refusal& refusal) {
+        outcome.refusal = refusal;
+    }
+    return outcome;
+}
+
+}  // namespace oracle

@@ -1,0 +1,73 @@
+#include "split.h"
+
+#include <algorithm>
+
+namespace oracle {
+
+namespace {
+
+// What a division flips in one participating column; empty sets where a or b is 0.
+Flip flip_of(const Column& column, TaxonSet group, TaxonSet side) {
+    const TaxonSet ones_in_a = column.ones & side;
+    const TaxonSet ones_in_b = column.ones & group & ~side;
+    const TaxonSet zeros = column.zeros & group;
+    Flip flip;
+    if (ones_in_a == 0 || ones_in_b == 0) return flip;
+    if (size(zeros) <= std::min(size(ones_in_a), size(ones_in_b))) flip.raised = zeros;
+    else if (size(ones_in_a) <= size(ones_in_b)) flip.lowered = ones_in_a;
+    else flip.lowered = ones_in_b;
+    return flip;
+}
+
+void apply(const Flip& flip, Column& column) {
+    column.ones = (column.ones | flip.raised) & ~flip.lowered;
+    column.zeros = (column.zeros | flip.lowered) & ~flip.raised;
+}
+
+// Joins all parts that hold one of these taxa.
+void join(std::vector<TaxonSet>& parts, TaxonSet taxa) {
+    TaxonSet joined = 0;
+    std::vector<TaxonSet> others;
+    for (TaxonSet part : parts) {
+        if ((part & taxa) != 0) joined |= part;
+        else others.push_back(part);
+    }
+    if (joined != 0) others.push_back(joined);
+    parts = others;
+}
+
+}  // namespace
+
+GroupSplit split_group(std::vector<Column>& columns, TaxonSet group) {
+    const Division division = least_division(columns, group);
+    GroupSplit split;
+    split.cost = division.cost;
+    for (unsigned taxon : members(group)) split.parts.push_back(only(taxon));
+    for (std::size_t c = 0; c < columns.size(); ++c) {
+        if (!participates(columns[c], group)) continue;
+        Flip flip = flip_of(columns[c], group, division.side);
+        apply(flip, columns[c]);
+        if (flip.raised == 0) join(split.parts, columns[c].ones & group);  // a raised column is dropped
+        flip.column = c;
+        if ((flip.raised | flip.lowered) != 0) split.flips.push_back(flip);
+    }
+    std::sort(split.parts.begin(), split.parts.end(),
+              [](TaxonSet x, TaxonSet y) { return lowest(x) < lowest(y); });
+    return split;
+}
+
+// "The file's refusals come first, then 11, 9, 10."
+SplitOutcome split(const Bytes& file, TaxonSet group, std::size_t workspace) {
+    SplitOutcome outcome;
+    try {
+        const Matrix matrix = read_matrix(file);
+        if (size(group) < 2 || !within(group, all_taxa(matrix.n))) refuse(11, 0);
+        if (workspace < matrix.n * matrix.columns.size()) refuse(9, 0);
+        outcome.division = least_division(matrix.columns, group);
+    } catch (const Refusal& refusal) {
+        outcome.refusal = refusal;
+    }
+    return outcome;
+}
+
+}  // namespace oracle

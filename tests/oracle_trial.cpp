@@ -1,0 +1,115 @@
+// The independent program by itself: document 01's specimens, its two ways to divide against each
+// other, and what document 01 says of every answer.
+//   oracle_trial FOLDER [COUNT]
+#include <cstdio>
+#include <cstdlib>
+
+#include "gen/matrices.h"
+#include "oracle/build.h"
+#include "oracle/division.h"
+#include "oracle/outline.h"
+#include "oracle/score.h"
+#include "specimens.h"
+#include "tally.h"
+
+namespace {
+
+using oracle::Answer;
+using oracle::Bytes;
+using oracle::Matrix;
+
+void specimen_cases(Tally& tally) {
+    for (const Specimen& specimen : specimens()) {
+        if (oracle::check(specimen.file).refusal != specimen.refusal)
+            tally.differ("the check of specimen " + specimen.name, specimen.file);
+        if (!specimen.printed.empty() && oracle::outline(specimen.file) != specimen.printed)
+            tally.differ("the outline of specimen " + specimen.name, specimen.file);
+        tally.agreed(specimen.refusal.number);
+    }
+}
+
+// Lengths and scores that the document gives.
+void specimen_numbers(Tally& tally) {
+    const std::size_t large = 1 << 16;
+    const Bytes first = specimens()[0].file, single = specimens()[5].file, zeros = specimens()[6].file;
+    const Bytes first_answer = oracle::build(first, large, large).file;
+    const Bytes zeros_answer = oracle::build(zeros, large, large).file;
+    if (first.size() != 78 || first_answer.size() != 112) tally.differ("the lengths of specimen 1", first);
+    if (oracle::build(single, 0, 20).file.size() != 20) tally.differ("the length of specimen 6's answer", single);
+    if (!(oracle::score(first, first_answer) == oracle::ScoreOutcome{{}, 0, 2}))
+        tally.differ("the score of specimen 1", first);
+    if (!(oracle::score(zeros, zeros_answer) == oracle::ScoreOutcome{{}, 5, 0}))
+        tally.differ("the score of specimen 7", zeros);
+}
+
+// Listing divisions and the network find the same one.
+void division_case(Tally& tally, gen::Random& random) {
+    const unsigned n = static_cast<unsigned>(random.between(2, 11));
+    const unsigned m = static_cast<unsigned>(random.between(0, 14));
+    const Matrix matrix = gen::random_matrix(random, n, m, gen::random_style(random));
+    oracle::TaxonSet group = oracle::all_taxa(n);
+    if (random.chance(50)) group &= random.bits();
+    if (oracle::size(group) < 2) return;
+    if (!(oracle::division_by_listing(matrix.columns, group) == oracle::division_by_network(matrix.columns, group)))
+        tally.differ("listing and network, group " + std::to_string(group), oracle::matrix_file(matrix));
+    tally.agreed(0);
+}
+
+std::uint64_t weighed_flips(const Matrix& matrix, const Answer& answer) {
+    std::uint64_t sum = 0;
+    for (const oracle::Flip& flip : answer.flips)
+        sum += matrix.columns[flip.column].weight * oracle::size(flip.raised | flip.lowered);
+    return sum;
+}
+
+// What is built reads back, is written back, and its total is the weighed flips; a tree's own matrix needs none.
+void build_case(Tally& tally, gen::Random& random) {
+    gen::Style style = gen::random_style(random);
+    const Matrix matrix = gen::random_matrix(random, static_cast<unsigned>(random.between(1, 24)),
+                                             static_cast<unsigned>(random.between(0, 40)), style);
+    const Bytes file = oracle::matrix_file(matrix);
+    const Answer answer = oracle::answer_of(matrix);
+    const Bytes written = oracle::answer_file(answer);
+    const oracle::ReadOutcome read = oracle::read(written, answer.flips.size());
+    if (read.refusal.refused() || !(read.answer.value == answer.value) || read.answer.flips != answer.flips)
+        tally.differ("what is built does not read back", file);
+    if (oracle::write(read.answer.value, read.answer.flips, written.size()).file != written)
+        tally.differ("what is read is not written back", file);
+    if (answer.value.total != weighed_flips(matrix, answer)) tally.differ("total and weighed flips", file);
+    if (style.shape == gen::Shape::tree && answer.value.total != 0) tally.differ("flips for a tree's own matrix", file);
+    tally.agreed(0);
+}
+
+// Document 01's trap: {0,5,6}, {5,6}, {1,2} is the walking order.
+void order_case(Tally& tally) {
+    Matrix matrix;
+    matrix.n = 7;
+    for (oracle::TaxonSet ones : {0x61u, 0x60u, 0x06u})
+        matrix.columns.push_back(oracle::Column{1, ones, oracle::all_taxa(7) & ~ones});
+    const Bytes file = oracle::matrix_file(matrix);
+    if (oracle::outline(file) !=
+        "taxa 7 columns 3 total 0\ngroup 7f cost 0\ngroup 61 cost 0\ngroup 6 cost 0\ngroup 60 cost 0\n")
+        tally.differ("groups are not in file order", file);
+    tally.agreed(0);
+}
+
+}  // namespace
+
+int main(int argc, char** argv) {
+    if (argc < 2) {
+        std::fprintf(stderr, "usage: oracle_trial FOLDER [COUNT]\n");
+        return 2;
+    }
+    const unsigned long count = argc > 2 ? std::strtoul(argv[2], nullptr, 10) : 3000;
+    Tally tally("oracle", argv[1]);
+    gen::Random random(2);
+    specimen_cases(tally);
+    specimen_numbers(tally);
+    order_case(tally);
+    for (unsigned long k = 0; k < count; ++k) {
+        division_case(tally, random);
+        build_case(tally, random);
+    }
+    tally.finish({0});
+    return 0;
+}
