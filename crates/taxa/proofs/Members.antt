@@ -2,16 +2,15 @@
 use mathlib.Core.Path.{_≡_, refl, sym, ap, ap₂, _∙_, subst}
 use mathlib.Core.Bool.{Bool, true, false, not, _&&_, _||_, true≢false, false≢true, and-eq-true-iff}
 use mathlib.Core.Logic.{_≢_, _↔_, _⊎_, inl, inr, ⊎-elim, by-cases}
-use Prim.Native.Nat.{ℕ, zero, suc, _+_, _-_, _^_, _≤_, _<_}
+use Prim.Native.Nat.{ℕ, zero, suc, _+_, _^_, _≤_, _<_}
 use native.Mathlib.Nat.{pow-suc}
 use native.Mathlib.Decide.{decLt}
 use native.Mathlib.Omega.{arith}
 use lib.Bits.{and-le-r, or-lt}
-use lib.Dec.{eqb}
 use lib.Pow.{pow-pos, pow-mono}
 use borrow.Author.Tests.{eqb-true, eq-eqb}
 use Rattle.taxa.specs.Sets.{has, _∈_, _∉_, _⊆_, Disjoint, _∩_, _∪_, _∖_, within, low, all}
-use Rattle.taxa.proofs.Digits.{bit-has, bit-high, one, without, has-ext, has-∩, has-∪, has-∖, has-none, has-pow, has-all, lowest}
+use Rattle.taxa.proofs.Digits.{low-most, bit-has, bit-high, one, without, has-ext, has-∩, has-∪, has-∖, has-none, has-pow, has-all, lowest}
 
 pub in? : (i x : ℕ) → Dec (i ∈ x)
 in? i x = go (has x i) refl
@@ -131,6 +130,31 @@ pub ∩-comm : (x y : ℕ) → x ∩ y ≡ y ∩ x
     turn : (x y : ℕ) → x ∩ y ⊆ y ∩ x
     turn x y = record { sub = λ h. let (a, b) = in∩ x y .0 h in in∩ y x .1 (b, a) }
 
+pub ∪-comm : (x y : ℕ) → x ∪ y ≡ y ∪ x
+∪-comm x y = ext (turn x y) (turn y x)
+  where
+    turn : (x y : ℕ) → x ∪ y ⊆ y ∪ x
+    turn x y = record { sub = λ h. in∪ y x .1 (⊎-elim inr inl (in∪ x y .0 h)) }
+
+-- What is in y is in z or not.
+pub ∪-split : (x y z : ℕ) → (x ∪ (y ∩ z)) ∪ (y ∖ z) ≡ x ∪ y
+∪-split x y z = ext (∪-⊆ (∪-⊆ left (⊆-trans (∩-⊆ y z) right)) (⊆-trans (∖-⊆ y z) right)) (∪-⊆ (record { sub = λ h. in∪ (x ∪ (y ∩ z)) (y ∖ z) .1 (inl (in∪ x (y ∩ z) .1 (inl h))) }) (record { sub = λ {i} h. known i h (in? i z) }))
+  where
+    left : x ⊆ x ∪ y
+    left = record { sub = λ h. in∪ x y .1 (inl h) }
+
+    right : y ⊆ x ∪ y
+    right = record { sub = λ h. in∪ x y .1 (inr h) }
+
+    known : (i : ℕ) → i ∈ y → Dec (i ∈ z) → i ∈ (x ∪ (y ∩ z)) ∪ (y ∖ z)
+    known i h (yes g) = in∪ (x ∪ (y ∩ z)) (y ∖ z) .1 (inl (in∪ x (y ∩ z) .1 (inr (in∩ y z .1 (h, g)))))
+    known i h (no n) = in∪ (x ∪ (y ∩ z)) (y ∖ z) .1 (inr (in∖ y z .1 (h, n)))
+
+pub ∩-part : (x : ℕ) {y z : ℕ} → z ⊆ y → (x ∩ y) ∩ z ≡ x ∩ z
+∩-part x {y} {z} s =
+    ext (record { sub = λ h. let (a, b) = in∩ (x ∩ y) z .0 h in in∩ x z .1 (∩-⊆ x y .sub a, b) })
+    (record { sub = λ h. let (a, b) = in∩ x z .0 h in in∩ (x ∩ y) z .1 (in∩ x y .1 (a, s .sub b), b) })
+
 pub ∩-≤ : (x y : ℕ) → x ∩ y ≤ y
 unfolding _∩_
 ∩-≤ x y = and-le-r x y
@@ -145,6 +169,32 @@ unfolding _∪_
 pub within-⊆ : (x y : ℕ) → (within x y ≡ true) ↔ (x ⊆ y)
 unfolding within _∩_
 within-⊆ x y = (λ e. record { sub = λ {i} h. ∩-⊆ʳ x y .sub (subst (λ (z : ℕ). i ∈ z) (sym (eqb-true (x ∩ y) x e)) h) }, λ s. eq-eqb (x ∩ y) x (⊆-∩ s))
+
+-- ---- what is common to one set and to two others
+
+pub ∩-over-∪ : (x y z : ℕ) → x ∩ (y ∪ z) ≡ (x ∩ y) ∪ (x ∩ z)
+∩-over-∪ x y z =
+    by-has (x ∩ (y ∪ z)) ((x ∩ y) ∪ (x ∩ z)) (λ i. rw (has-∩ x (y ∪ z) i, has-∪ y z i, has-∪ (x ∩ y) (x ∩ z) i, has-∩ x y i, has-∩ x z i) (bits (has x i) (has y i) (has z i)))
+  where
+    bits : (p q r : Bool) → (p && (q || r)) ≡ (p && q || (p && r))
+    bits true q r = refl
+    bits false q r = refl
+
+pub ∩-over-∩ : (x y z : ℕ) → x ∩ (y ∩ z) ≡ (x ∩ y) ∩ (x ∩ z)
+∩-over-∩ x y z =
+    by-has (x ∩ (y ∩ z)) ((x ∩ y) ∩ (x ∩ z)) (λ i. rw (has-∩ x (y ∩ z) i, has-∩ y z i, has-∩ (x ∩ y) (x ∩ z) i, has-∩ x y i, has-∩ x z i) (bits (has x i) (has y i) (has z i)))
+  where
+    bits : (p q r : Bool) → (p && (q && r)) ≡ (p && q && (p && r))
+    bits true q r = refl
+    bits false q r = refl
+
+pub ∩-over-∖ : (x y z : ℕ) → x ∩ (y ∖ z) ≡ (x ∩ y) ∖ z
+∩-over-∖ x y z =
+    by-has (x ∩ (y ∖ z)) ((x ∩ y) ∖ z) (λ i. rw (has-∩ x (y ∖ z) i, has-∖ y z i, has-∖ (x ∩ y) z i, has-∩ x y i) (bits (has x i) (has y i) (has z i)))
+  where
+    bits : (p q r : Bool) → (p && without q r) ≡ without (p && q) r
+    bits true q r = refl
+    bits false q r = refl
 
 -- ---- a set of one taxon, and the set of all
 
@@ -190,6 +240,9 @@ module _ (k : ℕ) where
   low-≤ {i} {x} f h =
       by-cases (decLt i (low k x)) (λ l. absurd (true≢false (sym (h .is) ∙ lowest k x (in-pos h) f .first i l))) (λ l. omega arith)
 
+  pub low-bound : (x : ℕ) → low k x ≤ k
+  low-bound x = low-most k x
+
   -- A member that no other is below is the lowest.
   pub low-is : {i x : ℕ} → x < 2 ^ k → i ∈ x → ((j : ℕ) → j ∈ x → i ≤ j) → low k x ≡ i
   low-is {i} {x} f h least = omega (arith, low-≤ f h, least (low k x) (low-in (in-pos h) f))
@@ -197,3 +250,7 @@ module _ (k : ℕ) where
   -- All taxa are as many as the width allows, or fewer.
   pub all-fits : {n : ℕ} → n ≤ k → all n < 2 ^ k
   all-fits {n} l = omega (arith, pow-pos n, pow-mono l)
+
+-- The lowest member does not depend on a width that is enough.
+pub low-width : {j k x : ℕ} → j ≤ k → 0 < x → x < 2 ^ j → low j x ≡ low k x
+low-width {j} {k} l p f = sym (low-is k (omega (arith, pow-mono l)) (low-in j p f) (λ i h. low-≤ j f h))

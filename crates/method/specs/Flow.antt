@@ -1,0 +1,72 @@
+-- Flows (document 01, "The network of document 001"). A net flow between a taxon and a column is `out - inn`: `out` units into the column or `inn`
+-- units out of it, never both, so that -w to w is: each at most w.
+use Prim.Native.Nat.{ℕ, _+_, _*_, _≤_, _<_, min}
+use mathlib.Core.Path.{_≡_}
+use mathlib.Core.Bool.{Bool, cond}
+use mathlib.Core.Logic.{_≢_, _⊎_}
+use lib.Dec.{ltb}
+use Rattle.taxa.specs.Sum.{sum, inside, outside}
+use Rattle.taxa.specs.Sets.{has, _∩_, count}
+use Rattle.method.specs.Split.{Column}
+
+-- ---- the network of a group
+
+module _ (k S : ℕ) where
+  -- "arcs between a taxon of S and its columns, the participating ones with a 1 there": the taxa that have an arc to a column.
+  unfoldable pub joined : Column → ℕ
+  joined c = cond (ltb 0 (count k (c .zeros ∩ S))) (c .ones ∩ S) 0
+
+  -- They "carry at most w"; "every other pair of taxon and column carries none".
+  unfoldable pub cap : Column → ℕ → ℕ
+  cap c = inside (has (joined c)) (λ i. c .weight)
+
+  -- "the arc through a column at most w x z".
+  unfoldable pub through : Column → ℕ
+  through c = c .weight * count k (c .zeros ∩ S)
+
+-- ---- one column of a network: of each taxon i below n, cap i is what its arc carries, and thr what the column lets through
+
+module _ (n : ℕ) (cap : ℕ → ℕ) (thr : ℕ) (out inn : ℕ → ℕ) where
+  -- "It is between -w and w. In a flow the net flows balance at every column [..], and a column's positive ones sum to at most w x z".
+  pub record ColumnFlow : Type 0 where
+    pub out-fits : (i : ℕ) → i < n → out i ≤ cap i
+    pub inn-fits : (i : ℕ) → i < n → inn i ≤ cap i
+    pub one-way : (i : ℕ) → i < n → min (out i) (inn i) ≡ 0
+    pub balance : sum n out ≡ sum n inn
+    pub limit : sum n out ≤ thr
+
+  -- A hop: one more unit can run from taxon i through the column to taxon j. There is room at both, and it turns back a unit at i or at j, or the
+  -- column lets it through.
+  abbrev pub Turns : ℕ → ℕ → Type 0
+  Turns i j = (0 < inn i) ⊎ (0 < out j) ⊎ (sum n out < thr)
+
+  pub record Hop (i j : ℕ) : Type 0 where
+    pub up : out i < cap i
+    pub down : inn j < cap j
+    pub turn : Turns i j
+
+-- What a set A of taxa cuts of a column: the least of what A can send into it, what the others can take, and what it lets through.
+abbrev pub cut : ℕ → (ℕ → ℕ) → ℕ → (ℕ → Bool) → ℕ
+cut n cap thr A = min (sum n (inside A cap)) (min (sum n (outside A cap)) thr)
+
+-- ---- n taxa and m columns
+
+module _ (n m : ℕ) (cap : ℕ → ℕ → ℕ) (thr : ℕ → ℕ) where
+  abbrev pub cutCost : (ℕ → Bool) → ℕ
+  cutCost A = sum m (λ c. cut n (cap c) (thr c) A)
+
+  module _ (out inn : ℕ → ℕ → ℕ) where
+    -- A flow from s to t: the net flows balance "at every taxon but s and t", and "its size is the net flow out of s".
+    pub record Flow (s t size : ℕ) : Type 0 where
+      pub column : (c : ℕ) → c < m → ColumnFlow n (cap c) (thr c) (out c) (inn c)
+      pub through : (i : ℕ) → i < n → i ≢ s → i ≢ t → sum m (λ c. out c i) ≡ sum m (λ c. inn c i)
+      pub source : sum m (λ c. out c s) ≡ size + sum m (λ c. inn c s)
+
+    -- The hops through column c.
+    abbrev pub Via : ℕ → ℕ → ℕ → Type 0
+    Via c = Hop n (cap c) (thr c) (out c) (inn c)
+
+    -- "the taxa still reachable from s past that flow": those that hops lead to.
+    pub data Reach (s : ℕ) : ℕ → Type 0 where
+      start : Reach s s
+      step : {i j : ℕ} (c : ℕ) → Reach s i → c < m → j < n → Via c i j → Reach s j
