@@ -1,12 +1,18 @@
 -- Flows and cuts.
 pub mod Hops
 pub mod Cuts
+pub mod Carry
+pub mod HopTree
+pub mod Path
+pub mod Spread
+pub mod Largest
 pub mod Example
 -- One split: listing, flips, parts, and the network that names it.
 pub mod Least
 pub mod Shares
 pub mod Listing
 pub mod Network
+pub mod Search
 pub mod Width
 pub mod Flips
 pub mod Entries

@@ -1,18 +1,18 @@
 -- The split by listing: its division costs least, then parts the lowest taxon, then has the fewest taxa, and is the only such one (`side-best`,
 -- `best-only`). It is the one of document 01's rule (`side-rule`, `rule-only`), and what a search for each taxon finds (`search-side`).
 use mathlib.Core.Path.{_≡_, refl, sym, ap, ap₂, _∙_, subst}
-use mathlib.Core.Logic.{inl, ⊎-elim}
+use mathlib.Core.Logic.{_≢_, inl, ⊎-elim}
 use Prim.Native.Nat.{ℕ, suc, _+_, _*_, _^_, _≤_, _<_}
 use native.Mathlib.Nat.{suc-mul, mul-add, mul-le-mul-left, mul-le-mul-right}
 use native.Mathlib.Decide.{decLt}
 use native.Mathlib.Omega.{arith}
 use Rattle.taxa.specs.Sets.{_∈_, _∉_, _⊆_, _∩_, _∪_, _∖_, count, low}
-use Rattle.taxa.proofs.Sums.{sum-+, sum-≤}
-use Rattle.taxa.proofs.Members.{in?, in∩, in∖, in∪, ext, in-pow, pow-⊆, ⊆-trans, ∩-⊆, ∩-⊆ʳ, ∖-⊆, ∪-⊆, ⊆-≤, below, low-in, low-≤, low-bound}
+use Rattle.taxa.proofs.Sums.{sum-≡, sum-+, sum-≤}
+use Rattle.taxa.proofs.Members.{in?, in∩, in∖, in∪, ext, empty, in-pow, pow-⊆, ⊆-trans, ∩-⊆, ∩-⊆ʳ, ∖-⊆, ∪-⊆, ⊆-≤, below, low-in, low-≤, low-bound}
 use Rattle.taxa.proofs.Counts.{count-le, count-pow, count-⊆, count-<, count-pos, count-tight}
 use Rattle.method.specs.Split.{Column, share, Division, division, parted, divisionCost, key, side, Rule}
 use Rattle.method.proofs.Least.{Least, least-is}
-use Rattle.method.proofs.Shares.{submodular, division-is, parted-in}
+use Rattle.method.proofs.Shares.{submodular, share-rest, division-is, parted-in}
 
 -- ---- the key, taken apart
 
@@ -125,6 +125,20 @@ module _ (k m : ℕ) (cols : ℕ → Column) (S : ℕ) where
             all i h (yes j) = j
             all i h (no n) = absurd (omega (arith, key-le (A ∩ D) meet .2 same near, count-< k (∩-⊆ A D) (below k fits (is .inside .sub h)) h n))
 
+    -- No division into two non-empty sides costs less, whichever side is named.
+    pub side-cheapest : (D : ℕ) → D ⊆ S → D ≢ 0 → D ≢ S → cost (side k m cols S) ≤ cost D
+    unfolding divisionCost
+    side-cheapest D d some proper = go (in? (low k S) D)
+      where
+        rest-proper : S ∖ D ≢ S
+        rest-proper e = some (empty (λ i h. in∖ S D .0 (subst (λ (X : ℕ). i ∈ X) (sym e) (d .sub h)) .1 h))
+
+        go : Dec (low k S ∈ D) → cost (side k m cols S) ≤ cost D
+        go (yes h) = side-best .cheapest D (record { inside = d; lowest = h; proper = proper })
+        go (no h) =
+            let x = side-best .cheapest (S ∖ D) (record { inside = ∖-⊆ S D; lowest = in∖ S D .1 (some-low, h); proper = rest-proper }) in
+            omega (arith, sum-≡ m (λ c b. ap (λ (n : ℕ). cols c .weight * n) (share-rest k S (cols c) D d)))
+
     -- It is the only division of its key.
     pub key-only : (D : ℕ) → Division k S D → key k m cols S D ≡ key k m cols S (side k m cols S) → D ≡ side k m cols S
     key-only D d e =
@@ -134,6 +148,13 @@ module _ (k m : ℕ) (cols : ℕ → Column) (S : ℕ) where
         let t : other (side k m cols S) ≡ other D = omega (arith, q c, q′ (sym c)) in
         sym (count-tight k (omega (arith, ⊆-≤ (d .inside))) (side-best .smallest D d c t) (omega (arith, r c t, r′ (sym c) (sym t))))
 
+    up-to : (D : ℕ) {i : ℕ} → i ∈ S ∖ D → other D ≤ i
+    up-to D h = low-≤ k (omega (arith, ⊆-≤ (∖-⊆ S D))) h
+
+    -- It lies in every division that costs as little and parts the same taxon.
+    pub side-inner : (D : ℕ) → Division k S D → cost D ≡ cost (side k m cols S) → other (side k m cols S) ∈ S ∖ D → side k m cols S ⊆ D
+    side-inner D d e h = side-best .smallest D d (sym e) (omega (arith, side-best .nearest D d (sym e), up-to D h))
+
     -- It obeys document 01's rule,
     pub side-rule : Rule k m cols S (side k m cols S) (other (side k m cols S))
     side-rule = record {
@@ -141,20 +162,11 @@ module _ (k m : ℕ) (cols : ℕ → Column) (S : ℕ) where
       cheapest = side-best .cheapest;
       is-parted = off (side-best .is-division);
       lowest = λ D i d e h. omega (arith, side-best .nearest D d (sym e), up-to D h);
-      fewest = λ D d e h. count-⊆ k (inner D d e h);
+      fewest = λ D d e h. count-⊆ k (side-inner D d e h);
       only = λ D d e h l.
-          let s = inner D d e h in
+          let s = side-inner D d e h in
           sym (count-tight k (omega (arith, ⊆-≤ (d .inside))) s (omega (arith, count-⊆ k s)));
     }
-      where
-        A : ℕ
-        A = side k m cols S
-
-        up-to : (D : ℕ) {i : ℕ} → i ∈ S ∖ D → other D ≤ i
-        up-to D h = low-≤ k (omega (arith, ⊆-≤ (∖-⊆ S D))) h
-
-        inner : (D : ℕ) → Division k S D → cost D ≡ cost A → other A ∈ S ∖ D → A ⊆ D
-        inner D d e h = side-best .smallest D d (sym e) (omega (arith, side-best .nearest D d (sym e), up-to D h))
 
     -- which names one side and one taxon.
     pub rule-only : {A B t u : ℕ} → Rule k m cols S A t → Rule k m cols S B u → (A ≡ B) × (t ≡ u)

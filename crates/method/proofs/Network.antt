@@ -16,7 +16,7 @@ use Rattle.taxa.proofs.Sums.{sum-≡}
 use Rattle.taxa.proofs.Members.{none, out as outside-of, in∖, below, low-in, ∩-part, ∩-over-∖, ∩-⊆ʳ}
 use Rattle.taxa.proofs.Counts.{count-pos, count-times, over-inside, over-outside}
 use Rattle.method.specs.Split.{Column, share, Division, parted, divisionCost, side}
-use Rattle.method.specs.Flow.{joined, cap, through, cut, cutCost, Flow, Reach, start, step}
+use Rattle.method.specs.Flow.{joined, cap, through, cut, cutCost, Flow, Reach, start, step, arcs, limits}
 use Rattle.method.proofs.Cuts.{MinCut, weak, min-cut}
 use Rattle.method.proofs.Listing.{search-side}
 
@@ -81,11 +81,11 @@ cap-in k S c {i} p = record { is = go (has (joined k S c) i) p }
     go false p = absurd (omega arith)
 
 module _ (k m : ℕ) (cols : ℕ → Column) (S : ℕ) where
-  abbrev pub caps : ℕ → ℕ → ℕ
-  caps c = cap k S (cols c)
+  abbrev caps : ℕ → ℕ → ℕ
+  caps = arcs k m cols S
 
-  abbrev pub thrs : ℕ → ℕ
-  thrs c = through k S (cols c)
+  abbrev thrs : ℕ → ℕ
+  thrs = limits k m cols S
 
   -- What a set costs in the network is what the division costs.
   pub network-cost : (A : ℕ) → A ⊆ S → cutCost k m caps thrs (has A) ≡ divisionCost k m cols S A
@@ -118,6 +118,14 @@ module _ (k m : ℕ) (cols : ℕ → Column) (S : ℕ) where
     pub missed : t ∉ A
 
   module _ (fits : S < 2 ^ k) (two : 1 < count k S) where
+    pub low-S : low k S ∈ S
+    low-S = low-in k (count-pos k (omega arith)) fits
+
+    -- Hops lead from S only into S.
+    pub reach-in : {out inn : ℕ → ℕ → ℕ} {i : ℕ} → Reach k m caps thrs out inn (low k S) i → i ∈ S
+    reach-in start = low-S
+    reach-in (step c q bc bj h) = ∩-⊆ʳ (cols c .ones) S .sub (joined-⊆ k S (cols c) .sub (cap-in k S (cols c) (omega (arith, h .down))))
+
     pub flows-side : {size : ℕ → ℕ} {t A : ℕ} → Flows size t A → (A ≡ side k m cols S) × (t ≡ parted k S A)
     flows-side {size} {t} {A} r = search-side k m cols S fits two (record {
       is-division = r .is-division;
@@ -156,19 +164,12 @@ module _ (k m : ℕ) (cols : ℕ → Column) (S : ℕ) where
       inner = cut .1;
     })
       where
-        low-S : low k S ∈ S
-        low-S = low-in k (count-pos k (omega arith)) fits
-
         low-A : low k S ∈ A
         low-A = record { is = r .reached (low k S) (below k fits low-S) .1 start }
 
-        from-S : {i : ℕ} → Reach k m caps thrs (r .out t) (r .inn t) (low k S) i → i ∈ S
-        from-S start = low-S
-        from-S (step {j = j} c q bc bj h) = ∩-⊆ʳ (cols c .ones) S .sub (joined-⊆ k S (cols c) .sub (cap-in k S (cols c) (omega (arith, h .down))))
-
         division : Division k S A
         division = record {
-          inside = record { sub = λ {i} h. from-S (r .reached i (below k (r .short) h) .0 (h .is)) };
+          inside = record { sub = λ {i} h. reach-in (r .reached i (below k (r .short) h) .0 (h .is)) };
           lowest = low-A;
           proper = λ e. r .missed (subst (λ (X : ℕ). t ∈ X) (sym e) (r .target));
         }

@@ -10,10 +10,12 @@ use lib.ListN.{length, List·getD-eq-default}
 use Rattle.taxa.specs.Sets.{_∈_, _⊆_, Disjoint, _∩_, count, low, all}
 use Rattle.taxa.proofs.Members.{none, below, low-≤, in-all, all-<, all-fits, ∩-⊆, ⊆-trans}
 use Rattle.taxa.proofs.Counts.{count-all}
-use Rattle.method.specs.Split.{Column, Same, Rule, side, parted, splitCost, after, FlipsAt, splitParts}
+use Rattle.method.specs.Split.{Column, Same, Rule, side, parted, divisionCost, splitCost, after, FlipsAt, splitParts}
 use Rattle.method.specs.Tree.{Group, Walk, walked, node, build, ordered, Line, Before, sooner, larger, Flips, total, Matrix, column, answer, Sound, ComesTo, Components, made, weighedFlips, Clade, Filled, NestedOrDisjoint, RootedTree, Fits}
+use Rattle.method.specs.Flow.{Flow, arcs, limits, FlowSearch, SplitPromise}
 use Rattle.method.proofs.Flips.{Proper}
 use Rattle.method.proofs.Listing.{side-rule}
+use Rattle.method.proofs.Search.{split-promise}
 use Rattle.method.proofs.Entries.{same-sym, Heavy}
 use Rattle.method.proofs.Depth.{build-node}
 use Rattle.method.proofs.Walks.{cost-≤, build-tame, flips-total, total-bound}
@@ -98,7 +100,24 @@ module _ (M : Matrix) (ok : Sound M) where
   pub group-columns : {cols cols′ : ℕ → Column} {S : ℕ} → ComesTo M cols S → ComesTo M cols′ S → cols ≡ cols′
   group-columns r q = comes-one 64 m fits (r .comes) (q .comes) (r .two)
 
-  -- At each, no division costs less, the side is the one of document 01's tie rule, and the parts are the connected components.
+  -- At each, no division into two non-empty sides costs less, a flow of exactly that size exists between the two named taxa within document 01's
+  -- bounds, and the flow search names the same division as listing: the three statements together,
+  pub group-promise : {cols : ℕ → Column} {S : ℕ} → ComesTo M cols S → SplitPromise 64 m cols S
+  group-promise {cols} {S} r = split-promise 64 m cols S (comes-short r) (r .two)
+
+  -- and apart.
+  pub group-cheapest : {cols : ℕ → Column} {S : ℕ} → ComesTo M cols S → (A : ℕ) → A ⊆ S → A ≢ 0 → A ≢ S → splitCost 64 m cols S ≤ divisionCost 64 m cols S A
+  group-cheapest r = group-promise r .cheapest
+
+  pub group-flow : {cols : ℕ → Column} {S : ℕ} → ComesTo M cols S → (out : ℕ → ℕ → ℕ) × (inn : ℕ → ℕ → ℕ)
+      × Flow 64 m (arcs 64 m cols S) (limits 64 m cols S) out inn (low 64 S) (parted 64 S (side 64 m cols S)) (splitCost 64 m cols S)
+  group-flow r = let p = group-promise r in (p .out, p .inn, p .flow)
+
+  pub group-search : {cols : ℕ → Column} {S : ℕ} → ComesTo M cols S → FlowSearch 64 m cols S (parted 64 S (side 64 m cols S)) (side 64 m cols S)
+      × ((t A : ℕ) → FlowSearch 64 m cols S t A → (t ≡ parted 64 S (side 64 m cols S)) × (A ≡ side 64 m cols S))
+  group-search r = let p = group-promise r in (p .found, λ t A. p .only)
+
+  -- The side is the one of document 01's tie rule, and the parts are the connected components.
   pub group-rule : {cols : ℕ → Column} {S : ℕ} → ComesTo M cols S → Rule 64 m cols S (side 64 m cols S) (parted 64 S (side 64 m cols S))
   group-rule {cols} {S} r = side-rule 64 m cols S (comes-short r) (r .two)
 

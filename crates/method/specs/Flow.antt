@@ -1,13 +1,13 @@
 -- Flows (document 01, "The network of document 001"). A net flow between a taxon and a column is `out - inn`: `out` units into the column or `inn`
--- units out of it, never both, so that -w to w is: each at most w.
+-- units out of it, never both, so that -w to w is: each at most w. And what a flow search finds.
 use Prim.Native.Nat.{ℕ, _+_, _*_, _≤_, _<_, min}
 use mathlib.Core.Path.{_≡_}
 use mathlib.Core.Bool.{Bool, cond}
-use mathlib.Core.Logic.{_≢_, _⊎_}
+use mathlib.Core.Logic.{_≢_, _↔_, _⊎_}
 use lib.Dec.{ltb}
 use Rattle.taxa.specs.Sum.{sum, inside, outside}
-use Rattle.taxa.specs.Sets.{has, _∩_, count}
-use Rattle.method.specs.Split.{Column}
+use Rattle.taxa.specs.Sets.{has, _∈_, _⊆_, _∩_, count, low}
+use Rattle.method.specs.Split.{Column, parted, divisionCost, side, splitCost}
 
 -- ---- the network of a group
 
@@ -70,3 +70,41 @@ module _ (n m : ℕ) (cap : ℕ → ℕ → ℕ) (thr : ℕ → ℕ) where
     pub data Reach (s : ℕ) : ℕ → Type 0 where
       start : Reach s s
       step : {i j : ℕ} (c : ℕ) → Reach s i → c < m → j < n → Via c i j → Reach s j
+
+  -- A largest flow from s to t.
+  pub record Largest (out inn : ℕ → ℕ → ℕ) (s t size : ℕ) : Type 0 where
+    pub flow : Flow out inn s t size
+    pub most : (out′ inn′ : ℕ → ℕ → ℕ) (size′ : ℕ) → Flow out′ inn′ s t size′ → size′ ≤ size
+
+-- ---- the flow search for the split of S
+
+module _ (k m : ℕ) (cols : ℕ → Column) (S : ℕ) where
+  -- The network of S: its arcs, and those through its columns.
+  abbrev pub arcs : ℕ → ℕ → ℕ
+  arcs c = cap k S (cols c)
+
+  abbrev pub limits : ℕ → ℕ
+  limits c = through k S (cols c)
+
+  -- What a flow search finds: of largest flows from s, "the lowest taxon of S", to each other taxon of S, the least, first met at t; and as side A
+  -- "the taxa still reachable from s past that flow".
+  pub record FlowSearch (t A : ℕ) : Type 0 where
+    pub size : ℕ → ℕ
+    pub out : ℕ → ℕ → ℕ → ℕ
+    pub inn : ℕ → ℕ → ℕ → ℕ
+    pub largest : (i : ℕ) → i ∈ S → i ≢ low k S → Largest k m arcs limits (out i) (inn i) (low k S) i (size i)
+    pub target : t ∈ S
+    pub other : t ≢ low k S
+    pub least : (i : ℕ) → i ∈ S → i ≢ low k S → size t ≤ size i
+    pub first : (i : ℕ) → i ∈ S → i ≢ low k S → i < t → size t < size i
+    pub reached : (i : ℕ) → i ∈ A ↔ Reach k m arcs limits (out t) (inn t) (low k S) i
+
+  -- What is promised of the split of S: no division into two non-empty sides costs less, a flow of exactly that size exists between s and the taxon t
+  -- that the split names, and a flow search finds the same division as listing: it finds one, and only that.
+  pub record SplitPromise : Type 0 where
+    pub cheapest : (A : ℕ) → A ⊆ S → A ≢ 0 → A ≢ S → splitCost k m cols S ≤ divisionCost k m cols S A
+    pub out : ℕ → ℕ → ℕ
+    pub inn : ℕ → ℕ → ℕ
+    pub flow : Flow k m arcs limits out inn (low k S) (parted k S (side k m cols S)) (splitCost k m cols S)
+    pub found : FlowSearch (parted k S (side k m cols S)) (side k m cols S)
+    pub only : {t A : ℕ} → FlowSearch t A → (t ≡ parted k S (side k m cols S)) × (A ≡ side k m cols S)
