@@ -1,0 +1,15 @@
+-- Laws that other crates cite: the rows of the rules, runs of records and entries, walks over records, and of file and content.
+pub mod Rows
+pub mod Kept
+pub mod Runs
+pub mod Pieces
+pub mod Walks
+pub mod Stages
+pub mod Cuts
+pub mod Files
+pub mod Outcomes
+pub mod Taken
+pub mod Encoding
+pub mod Lawful
+pub mod RoundTrip
+pub mod Meaning

@@ -1,0 +1,139 @@
+-- What an answer holds, and the file that holds it: "one head, its groups, its flips, one end" (document 01, "Records").
+use mathlib.Core.List.{List, [], _∷_, _++_}
+use Prim.Native.Nat.{ℕ, zero, suc, _+_, _*_}
+use lib.ListN.{getD, take, replicate}
+use Rattle.record.specs.Bytes.{numberAt, bytesOf, over}
+use Rattle.record.specs.Records as records
+use Rattle.record.specs.Records.{recordOf, recordBytes}
+use Rattle.answer.specs.declared.Answer.{Answer}
+
+-- The head's numbers; each group's taxa and split cost; each flipped column with its raised and lowered taxa.
+pub record Content : Type 0 where
+  pub n : ℕ
+  pub m : ℕ
+  pub groups : ℕ
+  pub flips : ℕ
+  pub total : ℕ
+  pub taxa : List ℕ
+  pub costs : List ℕ
+  pub columns : List ℕ
+  pub raised : List ℕ
+  pub lowered : List ℕ
+
+-- piece 0 ++ .. ++ piece (k - 1)
+unfoldable pub run : (ℕ → List ℕ) → ℕ → List ℕ
+run piece zero = []
+run piece (suc k) = run piece k ++ piece k
+
+-- g 0, .., g (k - 1)
+abbrev pub entries : (ℕ → ℕ) → ℕ → List ℕ
+entries g = run (λ i. g i ∷ [])
+
+-- ---- the file of a content
+
+unfoldable pub headBytes : ℕ → ℕ → ℕ → ℕ → ℕ → List ℕ
+headBytes n m groups flips total =
+    recordBytes (recordOf records.answerHead) (bytesOf 2 n ++ bytesOf 2 m ++ bytesOf 2 groups ++ bytesOf 2 flips ++ bytesOf 4 total)
+
+unfoldable pub groupBytes : ℕ → ℕ → List ℕ
+groupBytes taxa cost = recordBytes (recordOf records.group) (bytesOf 8 taxa ++ bytesOf 4 cost)
+
+unfoldable pub flipsBytes : ℕ → ℕ → ℕ → List ℕ
+flipsBytes column raised lowered = recordBytes (recordOf records.flips) (bytesOf 2 column ++ bytesOf 8 raised ++ bytesOf 8 lowered)
+
+unfoldable pub endBytes : List ℕ
+endBytes = recordBytes (recordOf records.answerEnd) []
+
+-- The record of group i, and that of flips j.
+abbrev pub groupOf : List ℕ → List ℕ → ℕ → List ℕ
+groupOf taxa costs i = groupBytes (getD taxa i 0) (getD costs i 0)
+
+abbrev pub flipsOf : List ℕ → List ℕ → List ℕ → ℕ → List ℕ
+flipsOf columns raised lowered j = flipsBytes (getD columns j 0) (getD raised j 0) (getD lowered j 0)
+
+unfoldable pub fileOf : Content → List ℕ
+fileOf c =
+    headBytes (c .n) (c .m) (c .groups) (c .flips) (c .total)
+    ++ run (groupOf (c .taxa) (c .costs)) (c .groups)
+    ++ run (flipsOf (c .columns) (c .raised) (c .lowered)) (c .flips)
+    ++ endBytes
+
+-- How long that is.
+abbrev pub lengthOf : Content → ℕ
+lengthOf c = 20 + 16 * c .groups + 22 * c .flips
+
+-- ---- the content of a file: the head takes 16 bytes, each group's record 16, each flips record 22
+
+abbrev pub groupsIn : List ℕ → ℕ
+groupsIn file = numberAt 2 file 8
+
+abbrev pub flipsIn : List ℕ → ℕ
+flipsIn file = numberAt 2 file 10
+
+unfoldable pub taxaIn : List ℕ → ℕ → List ℕ
+taxaIn file = entries (λ i. numberAt 8 file (20 + 16 * i))
+
+unfoldable pub costsIn : List ℕ → ℕ → List ℕ
+costsIn file = entries (λ i. numberAt 4 file (28 + 16 * i))
+
+-- Fields of the flips records of a file, of which the first starts at a place.
+unfoldable pub columnsFrom : List ℕ → ℕ → ℕ → List ℕ
+columnsFrom file at = entries (λ j. numberAt 2 file (at + 22 * j + 4))
+
+unfoldable pub raisedFrom : List ℕ → ℕ → ℕ → List ℕ
+raisedFrom file at = entries (λ j. numberAt 8 file (at + 22 * j + 6))
+
+unfoldable pub loweredFrom : List ℕ → ℕ → ℕ → List ℕ
+loweredFrom file at = entries (λ j. numberAt 8 file (at + 22 * j + 14))
+
+-- Where the flips start.
+abbrev pub flipsStart : ℕ → ℕ
+flipsStart groups = 16 + 16 * groups
+
+abbrev pub contentIn : List ℕ → Content
+contentIn file =
+    record {
+      n = numberAt 2 file 4;
+      m = numberAt 2 file 6;
+      groups = groupsIn file;
+      flips = flipsIn file;
+      total = numberAt 4 file 12;
+      taxa = taxaIn file (groupsIn file);
+      costs = costsIn file (groupsIn file);
+      columns = columnsFrom file (flipsStart (groupsIn file)) (flipsIn file);
+      raised = raisedFrom file (flipsStart (groupsIn file)) (flipsIn file);
+      lowered = loweredFrom file (flipsStart (groupsIn file)) (flipsIn file);
+    }
+
+-- ---- the content of a value, and the value of a content: "a value with 63 places, those past the last 0"
+
+abbrev pub padded : List ℕ → List ℕ
+padded xs = over xs 0 (replicate 63 0)
+
+abbrev pub answerOf : Content → Answer
+answerOf c =
+    record {
+      n = c .n;
+      m = c .m;
+      groups = c .groups;
+      flips = c .flips;
+      total = c .total;
+      taxa = padded (c .taxa);
+      costs = padded (c .costs);
+    }
+
+-- "Writing reads no place or list entry past the counts."
+abbrev pub contentOf : Answer → List ℕ → List ℕ → List ℕ → Content
+contentOf a columns raised lowered =
+    record {
+      n = a .n;
+      m = a .m;
+      groups = a .groups;
+      flips = a .flips;
+      total = a .total;
+      taxa = take (a .groups) (a .taxa);
+      costs = take (a .groups) (a .costs);
+      columns = take (a .flips) columns;
+      raised = take (a .flips) raised;
+      lowered = take (a .flips) lowered;
+    }

@@ -1,0 +1,203 @@
+-- Flows in the workspace: what a step of a path leaves, and that a flow is small.
+use Prim.Native.Nat.{ℕ, _+_, _-_, _*_, _^_, _≤_, _<_}
+use mathlib.Core.Path.{_≡_, refl, sym, ap, _∙_}
+use mathlib.Core.Bool.{Bool, true, false, cond, true≢false}
+use mathlib.Core.List.{List}
+use mathlib.Core.Logic.{_≢_, ⊎-elim}
+use native.Mathlib.Nat.{mul-le-mul-right}
+use native.Mathlib.Omega.{arith}
+use lib.IntN.{ℤ}
+use lib.ListN.{length, set, replicate, length-set, getD-replicate}
+use lib.Seq.{getD-set-same, getD-set-other}
+use Rattle.taxa.specs.Sum.{sum}
+use Rattle.taxa.specs.Sets.{has}
+use Rattle.taxa.proofs.Sums.{sum-≡, sum-none, sum-bound, term-≤}
+use Rattle.taxa.proofs.Members.{pow-in}
+use Rattle.search.specs.Workspace.{outs, inns, cleared, Kept, CanHop}
+use Rattle.method.proofs.Carry.{Hopped, Moved}
+use Rattle.method.proofs.HopTree.{Tree, Link}
+use Rattle.search.specs.Network.{nth, caps, Net, Ready}
+use Rattle.search.specs.Reaching.{fromOf, viaOf, turnOf, widthOf, Found}
+use Rattle.search.specs.Flows.{CanCount, Counted, Flowing, Advanced}
+use Rattle.search.proofs.Workspace.{kept-none, kept-then, cleared-kept, out-0, inn-0}
+use Rattle.method.proofs.Carry.{same?, sum-two}
+use Rattle.method.proofs.Path.{Pushing, push-start, push-step, push-end, apart, sends, takes}
+
+-- ---- sizes
+
+cond-lt : (b : Bool) {w k : ℕ} → w < k → cond b w 0 < k
+cond-lt true h = h
+cond-lt false h = omega arith
+
+pub caps-small : {W J L : List ℕ} {n m : ℕ} → Net W J L n m → (c : ℕ) → c < m → (i : ℕ) → caps W J c i < 65536
+unfolding caps
+caps-small {W} {J} z c b i = cond-lt (has (nth J c) i) (z .light c b)
+
+module _ {W J L : List ℕ} {n m : ℕ} {ws : List ℤ} {U : List ℕ} where
+  -- "256 x 65,535": a flow is at most what its source can send.
+  pub size-small : {s t k : ℕ} → Flowing W J L n m ws U s t k → k ≤ 16776960
+  size-small {s} f =
+      omega (
+        arith,
+        f .flow .source,
+        sum-bound m 65535 {g = λ c. outs ws n c s} (λ c b. omega (arith, f .flow .column c b .out-fits s (f .source), caps-small (f .ready .net) c b s)),
+        mul-le-mul-right 65535 (f .ready .net .columns),
+      )
+
+  sum-small : Ready W J L n m ws U → (c : ℕ) → c < m → sum n (outs ws n c) ≤ 4194240
+  sum-small r c b =
+      omega (
+        arith,
+        sum-bound n 65535 {g = outs ws n c} (λ i bi. omega (arith, r .column c b .out-fits i bi, caps-small (r .net) c b i)),
+        mul-le-mul-right 65535 (r .net .taxa),
+      )
+
+-- ---- the count of a column after a hop: what it was, and what the two entries are more
+
+pub count-after : (n : ℕ) {out inn out′ inn′ : ℕ → ℕ} {i j d : ℕ} → Moved n out inn out′ inn′ i j d → i < n → j < n → i ≢ j → sum n out′ + out i + out j ≡ sum n out + out′ i + out′ j
+count-after n {out} {inn} {out′} mv bi bj ne = sum-two n out′ out bi bj ne (mv .rest-out)
+
+pub entries-few : {n m : ℕ} {ws : List ℤ} {U : List ℕ} {c i j d : ℕ} → CanHop ws n m c i j d → CanCount n ws U c d → (outs ws n c i < 2 ^ 24) × (outs ws n c j < 2 ^ 24)
+entries-few {n} {ws = ws} {c = c} h k = (omega (arith, k .is, k .few, term-≤ n (outs ws n c) (h .from)), omega (arith, k .is, k .few, term-≤ n (outs ws n c) (h .to)))
+
+pub counted : (n : ℕ) {ws′ : List ℤ} (U : List ℕ) (c : ℕ) {v : ℕ} → length U ≡ 256 → c < 256 → v ≡ sum n (outs ws′ n c) → Counted n ws′ U (set U c v) c
+counted n U c {v} l b e = record { counts = length-set U c v ∙ l; is = getD-set-same U c v 0 (omega arith) ∙ e; rest = λ x ne. getD-set-other U c x v 0 ne }
+
+-- ---- one path
+
+module _ (W J L : List ℕ) (n m : ℕ) (ws₀ : List ℤ) (U₀ : List ℕ) (s t k a : ℕ) (Y : List ℕ) (d : ℕ) where
+  -- The path from t back to j has been pushed.
+  pub record Under (ws : List ℤ) (U : List ℕ) (j : ℕ) : Type 0 where
+    pub before : Flowing W J L n m ws₀ U₀ s t k
+    pub tree : Tree n m (caps W J) (nth L) (outs ws₀ n) (inns ws₀ n) s (has a) (fromOf Y) (viaOf Y) (turnOf Y) (widthOf Y)
+    pub push : Pushing n m (caps W J) (nth L) (outs ws₀ n) (inns ws₀ n) s (has a) (fromOf Y) (viaOf Y) (turnOf Y) (widthOf Y) t k d (outs ws n) (inns ws n) j
+    pub sums : (c : ℕ) → c < m → nth U c ≡ sum n (outs ws n c)
+    pub counts : length U ≡ 256
+    pub kept : Kept (n * m) ws₀ ws
+
+module _ {W J L : List ℕ} {n m : ℕ} {ws₀ : List ℤ} {U₀ : List ℕ} {s t k a : ℕ} {Y : List ℕ} {d : ℕ} where
+  pub under-start : {goal : ℕ} → Flowing W J L n m ws₀ U₀ s t k → Found W J L n m ws₀ s a Y goal → has a t ≡ true → d ≤ widthOf Y t → Under W J L n m ws₀ U₀ s t k a Y d ws₀ U₀ t
+  under-start f r h l = record {
+    before = f;
+    tree = r .tree;
+    push = push-start (f .flow) (f .apart) h l;
+    sums = f .ready .sums;
+    counts = f .ready .counts;
+    kept = kept-none (n * m) ws₀;
+  }
+
+  module _ {ws : List ℤ} {U : List ℕ} {j : ℕ} (u : Under W J L n m ws₀ U₀ s t k a Y d ws U j) where
+    pub under-low : j < 64
+    under-low = omega (arith, u .tree .low j (u .push .held), u .before .ready .net .taxa)
+
+    ready : Ready W J L n m ws U
+    ready = record { net = u .before .ready .net; places = omega (arith, u .before .ready .places, u .kept .long); counts = u .counts; column = u .push .column; sums = u .sums }
+
+    -- s alone has turn 0.
+    pub not-root : 0 < turnOf Y j → j ≢ s
+    not-root p e = omega (arith, u .tree .first, ap (turnOf Y) e)
+
+    pub is-root : turnOf Y j ≡ 0 → j ≡ s
+    is-root p = ⊎-elim (λ e. e) (λ ne. absurd (omega (arith, u .tree .link j (u .push .held) ne .earlier))) (same? j s)
+
+    module _ (ne : j ≢ s) where
+      link : Link n m (caps W J) (nth L) (outs ws₀ n) (inns ws₀ n) s (has a) (fromOf Y) (viaOf Y) (turnOf Y) (widthOf Y) j
+      link = u .tree .link j (u .push .held) ne
+
+      pub under-turn : turnOf Y (fromOf Y j) < turnOf Y j
+      under-turn = link .earlier
+
+      pub can-hop : CanHop ws n m (viaOf Y j) (fromOf Y j) j d × CanCount n ws U (viaOf Y j) d
+      can-hop =
+          let c = viaOf Y j in
+          let col = u .push .column c (link .via-m) in
+          let z = u .before .ready .net in
+          let bj = u .tree .low j (u .push .held) in
+          let up = sends (u .tree) (u .push) ne in (
+            record {
+              places = ready .places;
+              column = link .via-m;
+              from = link .from-n;
+              to = bj;
+              apart = apart (u .tree) (u .push) ne;
+              out = omega (arith, up, col .inn-fits (fromOf Y j) (link .from-n), caps-small z c (link .via-m) (fromOf Y j));
+              inn = omega (arith, takes (u .tree) (u .push) ne, col .out-fits j bj, caps-small z c (link .via-m) j);
+            },
+            record {
+              column = omega (arith, link .via-m, z .columns);
+              counts = u .counts;
+              is = u .sums c (link .via-m);
+              few = omega (arith, u .sums c (link .via-m), sum-small ready c (link .via-m));
+              little = omega (arith, up, col .inn-fits (fromOf Y j) (link .from-n), caps-small z c (link .via-m) (fromOf Y j));
+            },
+          )
+
+      pub under-step : {ws′ : List ℤ} {U′ : List ℕ} → Hopped n m (outs ws n) (inns ws n) (outs ws′ n) (inns ws′ n) (viaOf Y j) (fromOf Y j) j d → Kept (n * m) ws ws′ → Counted n ws′ U U′ (viaOf Y j)
+          → Under W J L n m ws₀ U₀ s t k a Y d ws′ U′ (fromOf Y j)
+      under-step {ws′} {U′} h e q = record {
+        before = u .before;
+        tree = u .tree;
+        push = push-step (u .tree) (u .push) ne h;
+        sums = λ c b. ⊎-elim (λ f. rw f (q .is)) (λ f. q .rest c f ∙ u .sums c b ∙ sym (sum-≡ n {g = outs ws′ n c} {h = outs ws n c} (h .rest-out c b f))) (same? c (viaOf Y j));
+        counts = q .counts;
+        kept = kept-then (u .kept) e;
+      }
+
+  pub under-end : {ws : List ℤ} {U : List ℕ} → Under W J L n m ws₀ U₀ s t k a Y d ws U s → Flowing W J L n m ws U s t (k + d)
+  under-end u = record { ready = ready u; flow = push-end (u .push) (u .before .source) (u .before .apart); source = u .before .source; sink = u .before .sink; apart = u .before .apart }
+
+-- ---- no flow, in a cleared workspace
+
+module _ {W J L : List ℕ} {n m : ℕ} (z : Net W J L n m) (ws : List ℤ) (places : n * m ≤ length ws) where
+  pub no-ready : Ready W J L n m (cleared (n * m) ws) (replicate 256 0)
+  no-ready = record {
+    net = z;
+    places = omega (arith, cleared-kept (n * m) ws places .long);
+    counts = refl;
+    column = λ c b. record {
+      out-fits = λ i bi. omega (arith, out-0 n m ws c i b bi);
+      inn-fits = λ i bi. omega (arith, inn-0 n m ws c i b bi);
+      one-way = λ i bi. omega (arith, out-0 n m ws c i b bi);
+      balance = sum-≡ n (λ i bi. out-0 n m ws c i b bi ∙ sym (inn-0 n m ws c i b bi));
+      limit = omega (arith, none c b);
+    };
+    sums = λ c b. getD-replicate 256 c 0 0 (omega (arith, z .columns)) ∙ sym (none c b);
+  }
+    where
+      none : (c : ℕ) → c < m → sum n (outs (cleared (n * m) ws) n c) ≡ 0
+      none c b = sum-none n (λ i bi. out-0 n m ws c i b bi)
+
+  pub no-flow : {s t : ℕ} → s < n → t < n → t ≢ s → Flowing W J L n m (cleared (n * m) ws) (replicate 256 0) s t 0
+  no-flow {s} {t} bs bt ne = record {
+    ready = no-ready;
+    flow = record { column = no-ready .column; through = λ i bi p q. all i bi; source = omega (arith, all s bs) };
+    source = bs;
+    sink = bt;
+    apart = ne;
+  }
+    where
+      all : (i : ℕ) → i < n → sum m (λ c. outs (cleared (n * m) ws) n c i) ≡ sum m (λ c. inns (cleared (n * m) ws) n c i)
+      all i bi = sum-≡ m (λ c b. out-0 n m ws c i b bi ∙ sym (inn-0 n m ws c i b bi))
+
+-- ---- t was not reached, or the path to it was pushed
+
+module _ {W J L : List ℕ} {n m : ℕ} {s t k a : ℕ} where
+  pub stayed : {ws : List ℤ} {U Y : List ℕ} {goal : ℕ} → Flowing W J L n m ws U s t k → Found W J L n m ws s a Y goal → goal ≡ 2 ^ t → has a t ≡ false → Advanced W J L n m ws U s t k k a
+  stayed f r e h = record {
+    stage = record { flowing = f; side = λ q. record { low = r .tree .low; all = r .all (record { none = λ x p. ap (has a) (pow-in t (record { is = ap (λ (y : ℕ). has y x) (sym e) ∙ p })) ∙ h }) } };
+    more = omega arith;
+    pushed = λ q. absurd (true≢false (sym q ∙ h));
+  }
+
+  pub went : {ws₀ ws : List ℤ} {U₀ U Y : List ℕ} {d : ℕ} → Under W J L n m ws₀ U₀ s t k a Y d ws U s → has a t ≡ true → 0 < d → Advanced W J L n m ws U s t k (k + d) a
+  went u h p = record { stage = record { flowing = under-end u; side = λ q. absurd (true≢false (sym h ∙ q)) }; more = omega arith; pushed = λ q. omega arith }
+
+-- Each path makes the flow larger, or is the last.
+pub rest-of : ℕ → Bool → ℕ
+rest-of k a = 2 * (16776960 - k) + cond a 1 0
+
+pub falls : (k k′ : ℕ) (a b : Bool) → a ≡ true → k ≤ k′ → (b ≡ true → k < k′) → k′ ≤ 16776960 → rest-of k′ b < rest-of k a
+unfolding rest-of
+falls k k′ true true e l p s = let q = p refl in omega arith
+falls k k′ true false e l p s = omega arith
+falls k k′ false b e l p s = absurd (true≢false (sym e))

@@ -1,0 +1,296 @@
+-- The search of a group: a largest flow to each other taxon in turn, the least of them, and that it names what listing names.
+use Prim.Native.Nat.{ℕ, _+_, _-_, _*_, _^_, _≤_, _<_}
+use mathlib.Core.Path.{_≡_, refl, sym, ap, _∙_}
+use mathlib.Core.Bool.{Bool, true, false, cond, true≢false}
+use mathlib.Core.List.{List}
+use mathlib.Core.Logic.{_≢_, _⊎_, ⊎-elim}
+use native.Mathlib.Decide.{decLt}
+use native.Mathlib.Omega.{arith}
+use lib.Dec.{ltb}
+use lib.IntN.{ℤ}
+use lib.ListN.{length}
+use lib.Pow.{pow-mono}
+use borrow.Author.Tests.{lt-ltb, le-ltb}
+use Rattle.taxa.specs.Sets.{has, _∈_, _∉_, _⊆_, _∩_, _∖_, count, low}
+use Rattle.taxa.proofs.Members.{out, in∩, in∖, ∩-≤, in-remove, none, below, low-in, low-≤, low-width, ⊆-≤, ∖-⊆}
+use Rattle.taxa.proofs.Counts.{count-pos, count-remove, count-width}
+use Rattle.method.specs.Split.{Division, divisionCost, side}
+use Rattle.method.specs.Flow.{joined, cap, through, cutCost, Flow, Reach, start, step}
+use Rattle.method.proofs.Cuts.{weak, min-cut, MinCut}
+use Rattle.method.proofs.Cuts as cuts
+use Rattle.method.proofs.Listing.{Search, search-side}
+use Rattle.method.proofs.Network.{network-cost}
+use Rattle.search.specs.Workspace.{outs, inns, cleared}
+use Rattle.search.specs.Network.{nth, caps, Net}
+use Rattle.search.specs.Flows.{Side, Largest}
+use Rattle.search.specs.Search.{colsOf, Given, capsOf, throughOf, Divided}
+use Rattle.search.specs.Trying.{Joins, Limits, costs, Parts, Tried}
+use Rattle.method.proofs.Carry.{same?}
+use Rattle.search.proofs.Reaching.{in-caps, off-none}
+use Rattle.search.proofs.Flows.{no-flow}
+use Rattle.search.proofs.Same.{same-cost, same-flow, same-reach}
+
+-- ---- what one largest flow says
+
+-- A largest flow stands in the workspace, and A is what hops reach past it.
+pub record Stands (W J L : List ℕ) (n m : ℕ) (ws : List ℤ) (s t k A : ℕ) : Type 0 where
+  pub flow : Flow n m (caps W J) (nth L) (outs ws n) (inns ws n) s t k
+  pub side : Side W J L n m ws s A
+  pub parts : has A t ≡ false
+
+at-most : (W J L : List ℕ) {n m : ℕ} (ws : List ℤ) {s t k : ℕ} → s < n → Flow n m (caps W J) (nth L) (outs ws n) (inns ws n) s t k → (D : ℕ → Bool) → D s ≡ true → D t ≡ false → k ≤ costs W J L n m D
+at-most W J L {n} {m} ws bs f D u v = weak n m (caps W J) (nth L) (outs ws n) (inns ws n) f bs D u v
+
+module _ {W J L : List ℕ} {n m : ℕ} {ws : List ℤ} {s t : ℕ} (bs : s < n) where
+  -- Below the bound it is a largest flow.
+  pub stands : {bound k A : ℕ} → Largest W J L n m ws s t bound k A → k < bound → Stands W J L n m ws s t k A
+  stands {bound} {k} {A} r l = record { flow = r .flow; side = r .side off; parts = off }
+    where
+      go : (b : Bool) → has A t ≡ b → has A t ≡ false
+      go true e = absurd (omega (arith, r .stops e))
+      go false e = e
+
+      off : has A t ≡ false
+      off = go (has A t) refl
+
+  module _ {k A : ℕ} (r : Stands W J L n m ws s t k A) where
+    cut : (k ≡ cutCost n m (caps W J) (nth L) (has A)) × MinCut n m (caps W J) (nth L) (outs ws n) (inns ws n) s t (has A)
+    cut = min-cut n m (caps W J) (nth L) (outs ws n) (inns ws n) (r .flow) bs (has A) (r .side .all) (r .parts)
+
+    pub stand-parts : (S : ℕ) → has S t ≡ true → Parts W J L n m S s k t
+    stand-parts S h = record { other = h; set = A; with-s = r .side .all s bs .1 start; off-b = r .parts; costs-k = cut .0 }
+
+-- ---- the taxa one after the other
+
+clash : (D : ℕ → Bool) (i j : ℕ) → D i ≡ true → D j ≡ false → i ≢ j
+clash D i j p q e = true≢false (sym p ∙ ap D e ∙ q)
+
+module _ {W J L : List ℕ} {n m S s : ℕ} where
+  pub parted-off : {u k b : ℕ} → Tried W J L n m S s u k b → b ≢ s
+  parted-off {b = b} r e = clash (has (r .best .set)) s b (r .best .with-s) (r .best .off-b) (sym e)
+
+  -- The first: no taxon of S but s is below t.
+  pub tried-one : {ws : List ℤ} {k t A : ℕ} → s < n → has S t ≡ true → ((i : ℕ) → has S i ≡ true → i ≢ s → t ≤ i) → Stands W J L n m ws s t k A → Tried W J L n m S s (t + 1) k t
+  tried-one {ws} {k} {t} bs h lo r = record {
+    best = stand-parts bs r S h;
+    below = omega arith;
+    least = λ D i u v h b. let e : i ≡ t = omega (arith, lo i h (λ q. clash D s i u v (sym q))) in at-most W J L ws bs (r .flow) D u (ap D (sym e) ∙ v);
+    first = λ D i u v h b. absurd (omega (arith, lo i h (λ q. clash D s i u v (sym q))));
+  }
+
+  pub tried-skip : {u k b : ℕ} → Tried W J L n m S s u k b → has S u ≡ false → Tried W J L n m S s (u + 1) k b
+  tried-skip {u} r e = record {
+    best = r .best;
+    below = omega (arith, r .below);
+    least = λ D i p q h l. ⊎-elim (λ f. absurd (true≢false (sym h ∙ ap (has S) f ∙ e))) (λ ne. r .least D i p q h (omega arith)) (same? i u);
+    first = r .first;
+  }
+
+  module _ {ws : List ℤ} {u k b k′ A : ℕ} (r : Tried W J L n m S s u k b) (bs : s < n) (l : Largest W J L n m ws s u k k′ A) where
+    pub tried-better : has S u ≡ true → k′ < k → Tried W J L n m S s (u + 1) k′ u
+    tried-better h lt = record {
+      best = stand-parts bs (stands bs l lt) S h;
+      below = omega arith;
+      least = λ D i p q h b. ⊎-elim (λ f. at-most W J L ws bs (l .flow) D p (ap D (sym f) ∙ q)) (λ ne. omega (arith, r .least D i p q h (omega arith))) (same? i u);
+      first = λ D i p q h b. omega (arith, r .least D i p q h b);
+    }
+
+    pub tried-worse : k ≤ k′ → Tried W J L n m S s (u + 1) k b
+    tried-worse le = record {
+      best = r .best;
+      below = omega (arith, r .below);
+      least = λ D i p q h b. ⊎-elim (λ f. omega (arith, at-most W J L ws bs (l .flow) D p (ap D (sym f) ∙ q))) (λ ne. r .least D i p q h (omega arith)) (same? i u);
+      first = r .first;
+    }
+
+-- ---- no flow is needed: b is the first taxon of S that hops do not reach past none
+
+module _ {W J L : List ℕ} {n m s : ℕ} (S : ℕ) (z : Net W J L n m) (ws : List ℤ) (places : n * m ≤ length ws) (bs : s < n) {A b : ℕ} (d : Side W J L n m (cleared (n * m) ws) s A)
+    (bb : b < n) (h : has S b ≡ true) (off : has A b ≡ false) (lo : (i : ℕ) → i < b → has S i ≡ true → has A i ≡ true) where
+  pub free-stands : Stands W J L n m (cleared (n * m) ws) s b 0 A
+  free-stands = record { flow = no-flow z ws places bs bb (λ e. clash (has A) s b (d .all s bs .1 start) off (sym e)) .flow; side = d; parts = off }
+
+  pub tried-free : Tried W J L n m S s n 0 b
+  tried-free = record { best = stand-parts bs free-stands S h; below = bb; least = λ D i p q k l. omega arith; first = λ D i p q k l. some D i p q k l (decLt 0 (costs W J L n m D)) }
+    where
+      some : (D : ℕ → Bool) (i : ℕ) → D s ≡ true → D i ≡ false → has S i ≡ true → i < b → Dec (0 < costs W J L n m D) → 0 < costs W J L n m D
+      some D i p q k l (yes c) = c
+      some D i p q k l (no c) =
+          let f = no-flow z ws places bs (omega arith) (λ e. clash D s i p q (sym e)) .flow in
+          let r = d .all i (omega arith) .0 (lo i l k) in
+          absurd (true≢false (sym (cuts.least n m (caps W J) (nth L) (outs (cleared (n * m) ws) n) (inns (cleared (n * m) ws) n) f bs D p q (omega arith) r) ∙ q))
+
+-- ---- the lowest taxa of a group
+
+-- t is the lowest taxon of S but s.
+pub record Second (S n s t : ℕ) : Type 0 where
+  pub small : t < n
+  pub order : s < t
+  pub in-t : has S t ≡ true
+  pub others : (i : ℕ) → has S i ≡ true → i ≢ s → t ≤ i
+
+module _ (n : ℕ) {S s r : ℕ} (l : n ≤ 64) (f : S < 2 ^ n) (two : 1 < count n S) (e : s ≡ low n S) (q : r ≡ S ∖ 2 ^ low 64 S) where
+  some-S : 0 < S
+  some-S = count-pos n (omega arith)
+
+  rest-is : r ≡ S ∖ 2 ^ s
+  rest-is = q ∙ ap (λ (x : ℕ). S ∖ 2 ^ x) (sym (low-width l some-S f) ∙ sym e)
+
+  s-low : s ∈ S
+  s-low = rw e (low-in n some-S f)
+
+  pub some-rest : 0 < r
+  some-rest = rw rest-is (count-pos n (omega (arith, count-remove n (below n f s-low) s-low)))
+
+  pub second : {t : ℕ} → t ≡ low 64 r → t ∈ r → Second S n s t
+  second {t} u h = record {
+    small = below n f (p .0);
+    order = omega (arith, p .1, low-≤ n f (p .0));
+    in-t = p .0 .is;
+    others = λ i k ne. rw u (low-≤ 64 small (rw rest-is (in-remove S s .1 (record { is = k }, ne))));
+  }
+    where
+      p : (t ∈ S) × (t ≢ s)
+      p = in-remove S s .0 (rw rest-is at h)
+
+      small : r < 2 ^ 64
+      small = rw rest-is (omega (arith, ⊆-≤ (∖-⊆ S (2 ^ s)), pow-mono l))
+
+-- ---- the network of the group
+
+module _ {W O Z : List ℕ} {S n m : ℕ} (g : Given W O Z S n m) {J L : List ℕ} (j : Joins O Z S m J) (l : Limits W Z S m L) where
+  zeros-64 : (c : ℕ) → count 64 (nth Z c ∩ S) ≡ count n (nth Z c ∩ S)
+  zeros-64 c = sym (count-width (g .taxa) (omega (arith, ∩-≤ (nth Z c) S, g .group)))
+
+  joined-is : (c : ℕ) → c < m → nth J c ≡ joined n S (colsOf W O Z c)
+  unfolding joined colsOf
+  joined-is c b = j .is c b ∙ ap (λ (z : ℕ). cond (ltb 0 z) (nth O c ∩ S) 0) (zeros-64 c)
+
+  caps-is : (c : ℕ) → c < m → caps W J c ≡ capsOf W O Z S n m c
+  unfolding caps cap colsOf
+  caps-is c b = ap (λ (x : ℕ). λ (i : ℕ). cond (has x i) (nth W c) 0) (joined-is c b)
+
+  through-is : (c : ℕ) → c < m → nth L c ≡ throughOf W O Z S n m c
+  unfolding through colsOf
+  through-is c b = l .is c b ∙ ap (λ (z : ℕ). nth W c * z) (zeros-64 c)
+
+  cond-in : (t : Bool) (x y i : ℕ) → has (cond t (x ∩ y) 0) i ≡ true → has y i ≡ true
+  cond-in true x y i h = in∩ x y .0 (record { is = h }) .1 .is
+  cond-in false x y i h = absurd (none {i = i} (record { is = h }))
+
+  joins-in : (c : ℕ) → c < m → (i : ℕ) → has (nth J c) i ≡ true → has S i ≡ true
+  joins-in c b i h = cond-in (ltb 0 (count 64 (nth Z c ∩ S))) (nth O c) S i (ap (λ (x : ℕ). has x i) (sym (j .is c b)) ∙ h)
+
+  pub net : ((c : ℕ) → c < m → nth W c < 65536) → Net W J L n m
+  net light = record { taxa = g .taxa; columns = g .columns; weights = g .weights; light = light; low = λ c b i h. below n (g .group) (record { is = joins-in c b i h }) }
+
+  cost-is : (A : ℕ) → A ⊆ S → costs W J L n m (has A) ≡ divisionCost n m (colsOf W O Z) S A
+  cost-is A h = same-cost n caps-is through-is (has A) ∙ network-cost n m (colsOf W O Z) S A h
+
+  -- Hops from a taxon of S stay in S.
+  reach-in : (ws : List ℤ) {s i : ℕ} → has S s ≡ true → Reach n m (caps W J) (nth L) (outs ws n) (inns ws n) s i → has S i ≡ true
+  reach-in ws h start = h
+  reach-in ws h (step {j = x} c r bc bx p) = joins-in c bc x (in-caps W J c x (omega (arith, p .down)))
+
+  side-in : {ws : List ℤ} {s A : ℕ} → has S s ≡ true → Side W J L n m ws s A → A ⊆ S
+  side-in {ws} {s} {A} h d = record { sub = λ {i} p. record { is = reach-in ws h (d .all i (d .low i (p .is)) .0 (p .is)) } }
+
+  -- ---- what was found is the split by listing
+
+  module _ {ws : List ℤ} {k k′ b A : ℕ} (r : Tried W J L n m S (low n S) n k b) (d : Stands W J L n m ws (low n S) b k′ A) where
+    s-in : low n S ∈ S
+    s-in = low-in n (count-pos n (omega (arith, g .two))) (g .group)
+
+    bs : low n S < n
+    bs = below n (g .group) s-in
+
+    inner : A ⊆ S
+    inner = side-in (s-in .is) (d .side)
+
+    with-s : has A (low n S) ≡ true
+    with-s = d .side .all (low n S) bs .1 start
+
+    b-in : has S b ≡ true
+    b-in = r .best .other
+
+    -- The flow is as large as the least cost that was met.
+    same-size : k ≡ k′
+    same-size =
+        omega (
+          arith,
+          r .least (has A) b with-s (d .parts) b-in (below n (g .group) (record { is = b-in })),
+          cut bs d .0,
+          at-most W J L ws bs (d .flow) (has (r .best .set)) (r .best .with-s) (r .best .off-b),
+          r .best .costs-k,
+        )
+
+    is-cost : k′ ≡ divisionCost n m (colsOf W O Z) S A
+    is-cost = cut bs d .0 ∙ cost-is A inner
+
+    -- A bound below the flow to each taxon is enough.
+    size : ℕ → ℕ
+    size i = cond (ltb i b) (k + 1) k
+
+    size-below : (i : ℕ) → i < b → size i ≡ k + 1
+    unfolding size
+    size-below i l = rw (lt-ltb i b l)
+
+    size-above : (i : ℕ) → b ≤ i → size i ≡ k
+    unfolding size
+    size-above i l = rw (le-ltb i b l)
+
+    weaker : (D i : ℕ) → Division n S D → i ∈ S ∖ D → Dec (i < b) → size i ≤ divisionCost n m (colsOf W O Z) S D
+    weaker D i v h (yes l) = omega (arith, size-below i l, r .first (has D) i (v .lowest .is) (out (in∖ S D .0 h .1)) (in∖ S D .0 h .0 .is) l, cost-is D (v .inside))
+    weaker D i v h (no l) = omega (arith, size-above i (omega arith), r .least (has D) i (v .lowest .is) (out (in∖ S D .0 h .1)) (in∖ S D .0 h .0 .is) (below n (g .group) (in∖ S D .0 h .0)), cost-is D (v .inside))
+
+    at-least : (i : ℕ) → Dec (i < b) → k ≤ size i
+    at-least i (yes l) = omega (arith, size-below i l)
+    at-least i (no l) = omega (arith, size-above i (omega arith))
+
+    at-b : size b ≡ k
+    at-b = size-above b (omega arith)
+
+    found : Search n m (colsOf W O Z) S (g .group) (g .two) size b A
+    found = record {
+      is-division = record { inside = inner; lowest = record { is = with-s }; proper = λ q. true≢false (sym b-in ∙ ap (λ (x : ℕ). has x b) (sym q) ∙ d .parts) };
+      is-parted = in∖ S A .1 (record { is = b-in }, λ h. true≢false (sym (h .is) ∙ d .parts));
+      found = omega (arith, is-cost, same-size, at-b);
+      weak = λ D i v h. weaker D i v h (decLt i b);
+      least = λ D i v h. omega (arith, at-b, at-least i (decLt i b));
+      first = λ D i v h l. omega (arith, at-b, size-below i l);
+      inner = λ D v h f. record { sub = λ {i} x. record { is = cut bs d .1 .smallest (has D) (v .lowest .is) (out (in∖ S D .0 h .1)) (cost-is D (v .inside) ∙ f ∙ sym is-cost ∙ cut bs d .0) i (below n (g .group) (inner .sub x)) (x .is) } };
+    }
+
+    pub divided : Divided W O Z S n m ws k′ b A
+    divided =
+        let q = search-side n m (colsOf W O Z) S (g .group) (g .two) found in
+        record {
+          flow = same-flow n caps-is through-is (d .flow);
+          reached = λ i bi. (λ h. same-reach n caps-is through-is (d .side .all i bi .0 h), λ h. d .side .all i bi .1 (same-reach n (λ c b. sym (caps-is c b)) (λ c b. sym (through-is c b)) h));
+          is-side = q .0;
+          is-cost = is-cost;
+          is-parted = q .1;
+        }
+
+  -- The same where no flow is needed: b is the lowest taxon of S that hops do not reach past none.
+  pub divided-free : (ws : List ℤ) {ws′ : List ℤ} {s A off b : ℕ} → Net W J L n m → n * m ≤ length ws → s ≡ low n S → Side W J L n m ws′ s A → ws′ ≡ cleared (n * m) ws → off ≡ S ∖ A → b ≡ low 64 off → b ∈ off
+      → Divided W O Z S n m ws′ 0 b A
+  divided-free ws {ws′} {s} {A} {off} {b} z places e d q o u h = rw q (divided (tried-free S z ws places bs d′ bb (p .0 .is) (out (p .1)) lo) (free-stands S z ws places bs d′ bb (p .0 .is) (out (p .1)) lo))
+    where
+      d′ : Side W J L n m (cleared (n * m) ws) (low n S) A
+      d′ = rw (e, q) at d
+
+      bs : low n S < n
+      bs = below n (g .group) (low-in n (count-pos n (omega (arith, g .two))) (g .group))
+
+      p : (b ∈ S) × (b ∉ A)
+      p = in∖ S A .0 (rw o at h)
+
+      bb : b < n
+      bb = below n (g .group) (p .0)
+
+      fits : off < 2 ^ 64
+      fits = rw o (omega (arith, ⊆-≤ (∖-⊆ S A), pow-mono (g .taxa), g .group))
+
+      lo : (i : ℕ) → i < b → has S i ≡ true → has A i ≡ true
+      lo i l k = off-none S A i (out (λ x. let y : i ∈ off = rw o x in omega (arith, u, low-≤ 64 fits y))) k

@@ -1,0 +1,136 @@
+-- `reach::through` meets its contract. The invariant: the taxa left are those that the column joins and that are not met.
+use borrow.Author.Needs.{needs}
+use native.Mathlib.Omega.{arith}
+use mathlib.Core.Path.{_≡_, sym, ap, _∙_}
+use mathlib.Core.Bool.{true, false}
+use Prim.Native.Nat.{ℕ, _^_, min}
+use Rattle.taxa.specs.Sets.{has, _∖_}
+use Rattle.taxa.proofs.Counts.{count-le}
+use Rattle.search.specs.Network.{nth}
+use Rattle.search.specs.Reaching.{widthOf, Passed}
+use Rattle.search.proofs.Reaching.{entry, used-fits, gate-up, gate-carry, low-i, pass-start, pass-shut, pass-one, others, still-in, off-in}
+use Rattle.search.proofs.reach.through.Statement.{statement}
+use Rattle.search.proofs.reach.through.Tie as tie
+
+abbrev Inv-loop : tie.InvT-loop
+Inv-loop weights joined limits n m ws used tree₀ s met done i c g stamp all₀ left₀ tree all left =
+    ((x : ℕ) → has left x ≡ true → (has (nth joined c) x ≡ true) × (has all x ≡ false)) × Passed weights joined limits n m ws s met all tree done i c left
+
+abbrev μ-loop : tie.MeasureT-loop
+μ-loop weights joined limits n m ws used tree₀ s met done i c g stamp all₀ left₀ tree all left = left
+
+gate-at-requires : tie.Need-gate-at-requires Inv-loop μ-loop
+gate-at-requires c κs =
+    let p = c .before .pre in
+    (omega (arith, p .0 .net .columns), omega (arith, p .0 .net .weights), p .0 .net .light (c .before .args .c) (p .2), entry (p .0) (p .2) (c .before .args .i) (p .3), used-fits (p .0) (p .2))
+
+returns : tie.Need-returns Inv-loop μ-loop
+returns c =
+    let p = c .before .before .before .before .pre in
+    pass-shut (p .1) (c .before .before .before .before .args .c) (sym (gate-up (p .0) (p .2) (c .before .before .gate-at .ensures) (p .3)) ∙ c .if1 .taken)
+
+size-requires : tie.Need-size-requires Inv-loop μ-loop
+size-requires c κs = search needs
+
+add-stamp : tie.Need-add-stamp Inv-loop μ-loop
+add-stamp c = omega (arith, c .size .ensures, count-le 64 (c .before .before .before .before .before .args .done))
+
+mul-difference : tie.Need-mul-difference Inv-loop μ-loop
+mul-difference c = search needs
+
+element-copy-out-difference : tie.Need-element-copy-out-difference Inv-loop μ-loop
+element-copy-out-difference c = search needs
+
+difference-requires : tie.Need-difference-requires Inv-loop μ-loop
+difference-requires c κs = search needs
+
+loop-holds : tie.Need-loop-holds Inv-loop μ-loop
+loop-holds c =
+    let a = c .before .before .before .before .before .before .before .args in
+    let p = c .before .before .before .before .before .before .before .pre in
+    rw (c .difference .ensures) (off-in (nth (a .joined .now) (a .c)) (a .met), pass-start (p .1) (a .c) (p .0) (p .2))
+
+lowest-requires : tie.Need-lowest-requires Inv-loop μ-loop
+lowest-requires c κs = search needs
+
+cast-j : tie.Need-cast-j Inv-loop μ-loop
+cast-j c = search needs
+
+carry-to-requires : tie.Need-carry-to-requires Inv-loop μ-loop
+carry-to-requires c κs =
+    let p = c .before .before .before .before .before .before .before .before .before .before .pre in
+    let h = c .before .before .loop .inv .0 (c .lowest .result) (c .lowest .ensures .2 .is) in
+    rw (c .before .before .before .before .before .before .before .before .gate-at .ensures .is-weight) (p .0 .net .light (c .before .before .before .before .before .before .before .before .before .before .args .c) (p .2), entry (p .0) (p .2) (c .lowest .result) (h .0))
+
+mul-least : tie.Need-mul-least Inv-loop μ-loop
+mul-least c = let p = c .before .before .before .before .before .before .before .before .before .before .before .pre in omega (arith, low-i (p .1), p .0 .net .taxa)
+
+add-least : tie.Need-add-least Inv-loop μ-loop
+add-least c = let p = c .before .before .before .before .before .before .before .before .before .before .before .pre in omega (arith, low-i (p .1), p .0 .net .taxa)
+
+mul-least-2 : tie.Need-mul-least-2 Inv-loop μ-loop
+mul-least-2 c = let p = c .before .before .before .before .before .before .before .before .before .before .before .pre in omega (arith, low-i (p .1), p .0 .net .taxa)
+
+element-copy-out-least : tie.Need-element-copy-out-least Inv-loop μ-loop
+element-copy-out-least c = let p = c .before .before .before .before .before .before .before .before .before .before .before .pre in omega (arith, low-i (p .1), p .0 .net .taxa)
+
+least-requires : tie.Need-least-requires Inv-loop μ-loop
+least-requires c κs = search needs
+
+offer-requires : tie.Need-offer-requires Inv-loop μ-loop
+offer-requires c κs =
+    let p = c .before .before .before .before .before .before .before .before .before .before .before .before .before .before .pre in
+    (c .before .before .before .before .lowest .ensures .1, omega (arith, low-i (p .1), p .0 .net .taxa), omega (arith, p .2, p .0 .net .columns), c .before .before .before .before .before .before .loop .inv .1 .tree .long)
+
+rest-requires : tie.Need-rest-requires Inv-loop μ-loop
+rest-requires c κs = search needs
+
+loop-less : tie.Need-loop-less Inv-loop μ-loop
+loop-less c = c .rest .ensures .1
+
+loop-again : tie.Need-loop-again Inv-loop μ-loop
+loop-again c =
+    let p = c .before .before .before .before .before .before .before .before .before .before .before .before .before .before .before .before .pre in
+    let v = c .before .before .before .before .before .before .before .before .loop in
+    let l = c .before .before .before .before .before .before .lowest in
+    let j = l .result in
+    let o = rw (c .before .before .before .before .before .before .before .before .before .before .before .size .ensures) at (c .before .offer .ensures) in
+    let h = v .inv .0 j (l .ensures .2 .is) in
+    let q : c .rest .result ≡ v .left ∖ 2 ^ j = c .rest .ensures .0 ∙ ap (λ (y : ℕ). v .left ∖ 2 ^ y) (sym (l .ensures .0)) in
+    let k = c .before .before .before .least .ensures ∙ ap (λ (x : ℕ). min x (widthOf (v .tree) (c .before .before .before .before .before .before .before .before .before .before .before .before .before .before .before .before .args .i))) (c .before .before .before .before .before .carry-to .ensures ∙ gate-carry (p .0) (p .2) (c .before .before .before .before .before .before .before .before .before .before .before .before .before .before .gate-at .ensures) (p .3) j (h .0)) in (
+      λ x y. let z = still-in (v .left) j x (ap (λ (u : ℕ). has u x) (sym q) ∙ y) in (v .inv .0 x (z .0) .0, others o x (z .1) ∙ v .inv .0 x (z .0) .1),
+      pass-one (v .inv .1) (p .2) (p .0 .net .low (c .before .before .before .before .before .before .before .before .before .before .before .before .before .before .before .before .args .c) (p .2) j (h .0)) (h .1) k o q,
+    )
+
+returns-2 : tie.Need-returns-2 Inv-loop μ-loop
+returns-2 c =
+    let e : c .before .loop .left ≡ 0 = omega arith in
+    rw e at (c .before .loop .inv .1)
+
+pub through-spec : {M : Type 1} → statement M
+through-spec =
+    tie.close
+    (tie.spec
+    Inv-loop
+    μ-loop
+    gate-at-requires
+    returns
+    size-requires
+    add-stamp
+    mul-difference
+    element-copy-out-difference
+    difference-requires
+    loop-holds
+    lowest-requires
+    cast-j
+    carry-to-requires
+    mul-least
+    add-least
+    mul-least-2
+    element-copy-out-least
+    least-requires
+    offer-requires
+    rest-requires
+    loop-less
+    loop-again
+    returns-2)

@@ -1,0 +1,33 @@
+-- The network of a group in lists: W, J and L hold each column's weight, the taxa that it joins, and what it lets through; U what runs through it.
+use mathlib.Core.Path.{_≡_}
+use mathlib.Core.Bool.{true, cond}
+use mathlib.Core.List.{List}
+use Prim.Native.Nat.{ℕ, _*_, _≤_, _<_}
+use lib.IntN.{ℤ}
+use lib.ListN.{length, getD}
+use Rattle.taxa.specs.Sum.{sum}
+use Rattle.taxa.specs.Sets.{has}
+use Rattle.method.specs.Flow.{ColumnFlow}
+use Rattle.search.specs.Workspace.{outs, inns}
+
+abbrev pub nth : List ℕ → ℕ → ℕ
+nth l x = getD l x 0
+
+-- What runs at most between column c and taxon i, either way.
+unfoldable pub caps : List ℕ → List ℕ → ℕ → ℕ → ℕ
+caps W J c i = cond (has (nth J c) i) (nth W c) 0
+
+pub record Net (W J L : List ℕ) (n m : ℕ) : Type 0 where
+  pub taxa : n ≤ 64
+  pub columns : m ≤ 256
+  pub weights : m ≤ length W
+  pub light : (c : ℕ) → c < m → nth W c < 65536
+  pub low : (c : ℕ) → c < m → (i : ℕ) → has (nth J c) i ≡ true → i < n
+
+-- The net flows of the workspace balance at every column and keep its limits; U counts them.
+pub record Ready (W J L : List ℕ) (n m : ℕ) (ws : List ℤ) (U : List ℕ) : Type 0 where
+  pub net : Net W J L n m
+  pub places : n * m ≤ length ws
+  pub counts : length U ≡ 256
+  pub column : (c : ℕ) → c < m → ColumnFlow n (caps W J c) (nth L c) (outs ws n c) (inns ws n c)
+  pub sums : (c : ℕ) → c < m → nth U c ≡ sum n (outs ws n c)

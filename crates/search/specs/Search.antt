@@ -1,0 +1,44 @@
+-- What the search of a group asks and promises.
+use mathlib.Core.Path.{_≡_}
+use mathlib.Core.Bool.{true}
+use mathlib.Core.List.{List}
+use mathlib.Core.Logic.{_↔_}
+use Prim.Native.Nat.{ℕ, _^_, _≤_, _<_}
+use lib.IntN.{ℤ}
+use lib.ListN.{length}
+use Rattle.taxa.specs.Sets.{has, count, low}
+use Rattle.method.specs.Split.{Column, divisionCost, side, parted}
+use Rattle.method.specs.Flow.{cap, through, Flow, Reach}
+use Rattle.search.specs.Workspace.{outs, inns}
+use Rattle.search.specs.Network.{nth}
+
+-- The columns whose weights, ones and zeros are in the lists W, O and Z.
+unfoldable pub colsOf : List ℕ → List ℕ → List ℕ → ℕ → Column
+colsOf W O Z c = record { weight = nth W c; ones = nth O c; zeros = nth Z c }
+
+-- m columns, and a group S of at least two of n taxa.
+pub record Given (W O Z : List ℕ) (S n m : ℕ) : Type 0 where
+  pub taxa : n ≤ 64
+  pub columns : m ≤ 256
+  pub weights : m ≤ length W
+  pub ones : m ≤ length O
+  pub zeros : m ≤ length Z
+  pub group : S < 2 ^ n
+  pub two : 1 < count n S
+
+module _ (W O Z : List ℕ) (S n m : ℕ) where
+  -- "arcs between a taxon of S and its columns [..] carry at most w, the arc through a column at most w x z".
+  abbrev pub capsOf : ℕ → ℕ → ℕ
+  capsOf c = cap n S (colsOf W O Z c)
+
+  abbrev pub throughOf : ℕ → ℕ
+  throughOf c = through n S (colsOf W O Z c)
+
+  -- "before it is cleared, the workspace holds a flow of the division's cost from s to t, and side A is the taxa still reachable from s past that
+  -- flow"; and cost, A and t are what listing every division gives.
+  pub record Divided (ws : List ℤ) (k t A : ℕ) : Type 0 where
+    pub flow : Flow n m capsOf throughOf (outs ws n) (inns ws n) (low n S) t k
+    pub reached : (i : ℕ) → i < n → has A i ≡ true ↔ Reach n m capsOf throughOf (outs ws n) (inns ws n) (low n S) i
+    pub is-side : A ≡ side n m (colsOf W O Z) S
+    pub is-cost : k ≡ divisionCost n m (colsOf W O Z) S A
+    pub is-parted : t ≡ parted n S A

@@ -1,0 +1,18 @@
+-- A net flow is signed: "positive into the column, negative out of it". It is told by two numbers, of which at most one is above 0.
+use mathlib.Core.Path.{_≡_}
+use Prim.Native.Nat.{ℕ, suc, _-_}
+use lib.IntN.{ℤ, pos, negsuc}
+
+-- What goes out of the taxon into the column, and what comes in from it.
+abbrev pub outOf : ℤ → ℕ
+outOf (pos n) = n
+outOf (negsuc n) = 0
+
+abbrev pub innOf : ℤ → ℕ
+innOf (pos n) = 0
+innOf (negsuc n) = suc n
+
+-- z is a - b.
+pub record Diff (a b : ℕ) (z : ℤ) : Type 0 where
+  pub out : outOf z ≡ a - b
+  pub inn : innOf z ≡ b - a

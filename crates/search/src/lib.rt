@@ -1,0 +1,174 @@
+// The search for the least division of a group: a largest flow from its lowest taxon to each other one, in the lent workspace.
+// Promises that a flow of the division's cost stands there, that side A is what hops reach past it, and that cost, A and t are what listing gives.
+// Rests on taxa and on method; signed numbers are confined to module net.
+pub mod net;
+mod push;
+mod reach;
+
+ghost use mathlib.Core.Path.{_≡_};
+ghost use mathlib.Core.Bool.{cond};
+ghost use Prim.Native.Nat.{_+_, _*_, _≤_, _<_, _^_};
+ghost use lib.Dec.{ltb};
+ghost use lib.ListN.{length};
+ghost use Rattle.taxa.specs.Sets.{count, low};
+ghost use Rattle.search.specs.Workspace.{cleared, Kept};
+ghost use Rattle.search.specs.Network.{Net};
+ghost use Rattle.search.specs.Flows.{Side};
+ghost use Rattle.search.specs.Search.{Given, Divided};
+ghost use Rattle.search.specs.Trying.{Joins, Limits, Tried};
+
+// x, unless z is 0.
+fn unless_none(z: u32, x: u64) -> u64
+    ensures { λ r. ⌜ r ≡ cond (ltb 0 z) x 0 ⌝ }
+{
+    if 0 < z { x } else { 0 }
+}
+
+// The taxa of the group that each column joins: its ones, if it takes part.
+fn joined_of(ones: &[u64], zeros: &[u64], group: u64, m: usize) -> [u64; 256]
+    requires { ⌜ (m ≤ 256) × (m ≤ length (now ones)) × (m ≤ length (now zeros)) ⌝ }
+    ensures { λ r. ⌜ Joins (now (ones .entry)) (now (zeros .entry)) group m r ⌝ }
+{
+    let mut joined = [0u64; 256];
+    for c in 0..m {
+        joined[c] = unless_none(
+            taxa::count_in(zeros[c], group),
+            taxa::common(ones[c], group),
+        );
+    }
+    joined
+}
+
+// What each column lets through: its weight for each of its zeros in the group.
+fn limits_of(weights: &[u16], zeros: &[u64], group: u64, m: usize) -> [u32; 256]
+    requires { ⌜ (m ≤ 256) × (m ≤ length (now weights)) × (m ≤ length (now zeros)) ⌝ }
+    ensures { λ r. ⌜ Limits (now (weights .entry)) (now (zeros .entry)) group m r ⌝ }
+{
+    let mut limits = [0u32; 256];
+    for c in 0..m {
+        limits[c] = reach::wide(weights[c]) * taxa::count_in(zeros[c], group);
+    }
+    limits
+}
+
+// The taxa that hops reach from s past no flow.
+fn connected(
+    weights: &[u16],
+    joined: &[u64; 256],
+    limits: &[u32; 256],
+    n: usize,
+    m: usize,
+    ws: &mut [i32],
+    s: usize,
+) -> u64
+    requires { ⌜ Net (now weights) (now joined) (now limits) n m × (n * m ≤ length (now ws)) × (s < n) ⌝ }
+    ensures { λ r. ⌜ Side (now (weights .entry)) (now (joined .entry)) (now (limits .entry)) n m (now (ws .exit)) s r × (now (ws .exit) ≡ cleared (n * m) (now (ws .entry))) ⌝ }
+{
+    net::clear(ws, n * m);
+    let used = [0u32; 256];
+    let mut tree = [0u32; 256];
+    reach::reach(weights, joined, limits, n, m, ws, &used, &mut tree, s, 0)
+}
+
+// The least cost so far, and the taxon that it was met at first.
+struct Best {
+    cost: u32,
+    other: usize,
+}
+
+// Taxon u is tried.
+fn attempt(
+    weights: &[u16],
+    joined: &[u64; 256],
+    limits: &[u32; 256],
+    group: u64,
+    n: usize,
+    m: usize,
+    ws: &mut [i32],
+    s: usize,
+    best: Best,
+    u: usize,
+) -> Best
+    requires { ⌜ Net (now weights) (now joined) (now limits) n m × (n * m ≤ length (now ws)) × (s < u) × (u < n) × Tried (now weights) (now joined) (now limits) n m group s u (best .cost) (best .other) ⌝ }
+    ensures { λ r. ⌜ Tried (now (weights .entry)) (now (joined .entry)) (now (limits .entry)) n m group s (u + 1) (r .cost) (r .other) × Kept (n * m) (now (ws .entry)) (now (ws .exit)) ⌝ }
+{
+    if !taxa::contains(group, u as u32) {
+        return best;
+    }
+    let cut = push::largest(weights, joined, limits, n, m, ws, s, u, best.cost);
+    if cut.size < best.cost {
+        Best {
+            cost: cut.size,
+            other: u,
+        }
+    } else {
+        best
+    }
+}
+
+// The least that parts a taxon of the group from its lowest, s, and the first such taxon.
+fn cheapest(
+    weights: &[u16],
+    joined: &[u64; 256],
+    limits: &[u32; 256],
+    group: u64,
+    n: usize,
+    m: usize,
+    ws: &mut [i32],
+    s: usize,
+) -> Best
+    requires { ⌜ Net (now weights) (now joined) (now limits) n m × (n * m ≤ length (now ws)) × (group < 2 ^ n) × (1 < count n group) × (s ≡ low n group) ⌝ }
+    ensures { λ r. ⌜ Tried (now (weights .entry)) (now (joined .entry)) (now (limits .entry)) n m group s n (r .cost) (r .other) × Kept (n * m) (now (ws .entry)) (now (ws .exit)) ⌝ }
+{
+    let t = taxa::lowest(taxa::rest(group)) as usize;
+    let cut = push::largest(weights, joined, limits, n, m, ws, s, t, 4294967295);
+    let mut best = Best {
+        cost: cut.size,
+        other: t,
+    };
+    for u in t + 1..n {
+        best = attempt(weights, joined, limits, group, n, m, ws, s, best, u);
+    }
+    best
+}
+
+// What a division costs, the side A of the group's lowest taxon, and t, the lowest taxon of the other side.
+pub struct Split {
+    pub cost: u32,
+    pub side: u64,
+    pub other: usize,
+}
+
+// The division that document 01 takes. Cost 0 is found without a flow; else the flow of the taxon that is parted stands in the workspace, run last.
+pub fn divide(
+    weights: &[u16],
+    ones: &[u64],
+    zeros: &[u64],
+    group: u64,
+    n: usize,
+    m: usize,
+    ws: &mut [i32],
+) -> Split
+    requires { ⌜ Given (now weights) (now ones) (now zeros) group n m × (n * m ≤ length (now ws)) ⌝ }
+    ensures { λ r. ⌜ Divided (now (weights .entry)) (now (ones .entry)) (now (zeros .entry)) group n m (now (ws .exit)) (r .cost) (r .other) (r .side) × Kept (n * m) (now (ws .entry)) (now (ws .exit)) ⌝ }
+{
+    let joined = joined_of(ones, zeros, group, m);
+    let limits = limits_of(weights, zeros, group, m);
+    let s = taxa::lowest(group) as usize;
+    let met = connected(weights, &joined, &limits, n, m, ws, s);
+    let off = taxa::difference(group, met);
+    if 0 < off {
+        return Split {
+            cost: 0,
+            side: met,
+            other: taxa::lowest(off) as usize,
+        };
+    }
+    let t = cheapest(weights, &joined, &limits, group, n, m, ws, s).other;
+    let cut = push::largest(weights, &joined, &limits, n, m, ws, s, t, 4294967295);
+    Split {
+        cost: cut.size,
+        side: cut.side,
+        other: t,
+    }
+}

@@ -1,0 +1,121 @@
+// A path pushed, hop by hop, and a largest flow by one path after another.
+use crate::net;
+use crate::reach;
+ghost use mathlib.Core.Path.{_≡_};
+ghost use mathlib.Core.Bool.{true, false};
+ghost use mathlib.Core.Logic.{_≢_};
+ghost use Prim.Native.Nat.{_+_, _*_, _≤_, _<_};
+ghost use lib.ListN.{length};
+ghost use Rattle.taxa.specs.Sets.{has};
+ghost use Rattle.search.specs.Workspace.{outs, inns, Kept, CanHop};
+ghost use Rattle.method.proofs.Carry.{Hopped};
+ghost use Rattle.search.specs.Network.{Net};
+ghost use Rattle.search.specs.Flows.{CanCount, Counted, Flowing, Advanced, Largest};
+
+// d more from taxon i to taxon j through column c, and the count of what runs through it with that.
+fn step(
+    ws: &mut [i32],
+    used: &mut [u32; 256],
+    n: usize,
+    m: usize,
+    c: usize,
+    i: usize,
+    j: usize,
+    d: u32,
+)
+    requires { ⌜ CanHop (now ws) n m c i j d × CanCount n (now ws) (now used) c d ⌝ }
+    ensures { λ _. ⌜ Hopped n m (outs (now (ws .entry)) n) (inns (now (ws .entry)) n) (outs (now (ws .exit)) n) (inns (now (ws .exit)) n) c i j d × Kept (n * m) (now (ws .entry)) (now (ws .exit)) × Counted n (now (ws .exit)) (now (used .entry)) (now (used .exit)) c ⌝ }
+{
+    let before = net::out_in(ws, n, c, i) + net::out_in(ws, n, c, j);
+    net::hop(ws, n, m, c, i, j, d);
+    let after = net::out_in(ws, n, c, i) + net::out_in(ws, n, c, j);
+    used[c] = used[c] + after - before;
+}
+
+// The size of a flow, and the taxa reached from its source.
+pub struct Cut {
+    pub size: u32,
+    pub side: u64,
+}
+
+fn index(x: u32) -> usize
+    ensures { λ r. ⌜ r ≡ x ⌝ }
+{
+    x as usize
+}
+
+// If hops reach t, what the path to it carries is pushed along it.
+fn advance(
+    weights: &[u16],
+    joined: &[u64; 256],
+    limits: &[u32; 256],
+    n: usize,
+    m: usize,
+    ws: &mut [i32],
+    used: &mut [u32; 256],
+    s: usize,
+    t: usize,
+    size: u32,
+) -> Cut
+    requires { ⌜ Flowing (now weights) (now joined) (now limits) n m (now ws) (now used) s t size ⌝ }
+    ensures { λ r. ⌜ Advanced (now (weights .entry)) (now (joined .entry)) (now (limits .entry)) n m (now (ws .exit)) (now (used .exit)) s t size (r .size) (r .side) × Kept (n * m) (now (ws .entry)) (now (ws .exit)) ⌝ }
+{
+    let mut tree = [0u32; 256];
+    let goal = taxa::single(t as u32);
+    let met = reach::reach(weights, joined, limits, n, m, ws, used, &mut tree, s, goal);
+    if !taxa::contains(met, t as u32) {
+        return Cut {
+            size: size,
+            side: met,
+        };
+    }
+    let d = tree[4 * t + 3];
+    let mut j = t;
+    // Only s has turn 0.
+    while 0 < tree[4 * j + 2] {
+        let i = index(tree[4 * j]);
+        let c = index(tree[4 * j + 1]);
+        step(ws, used, n, m, c, i, j, d);
+        j = i;
+    }
+    Cut {
+        size: size + d,
+        side: met,
+    }
+}
+
+// Whether the flow still grows: t was reached, and the bound is not.
+fn grows(side: u64, t: usize, size: u32, bound: u32) -> bool
+    requires { ⌜ t < 64 ⌝ }
+    ensures { λ r. ⌜ (r ≡ true → has side t ≡ true) × (r ≡ false → has side t ≡ true → bound ≤ size) ⌝ }
+{
+    if taxa::contains(side, t as u32) {
+        size < bound
+    } else {
+        false
+    }
+}
+
+// A largest flow from s to t, from whatever stands in the workspace; it stops once it is no smaller than the bound.
+pub fn largest(
+    weights: &[u16],
+    joined: &[u64; 256],
+    limits: &[u32; 256],
+    n: usize,
+    m: usize,
+    ws: &mut [i32],
+    s: usize,
+    t: usize,
+    bound: u32,
+) -> Cut
+    requires { ⌜ Net (now weights) (now joined) (now limits) n m × (n * m ≤ length (now ws)) × (s < n) × (t < n) × (t ≢ s) ⌝ }
+    ensures { λ r. ⌜ Largest (now (weights .entry)) (now (joined .entry)) (now (limits .entry)) n m (now (ws .exit)) s t bound (r .size) (r .side) × Kept (n * m) (now (ws .entry)) (now (ws .exit)) ⌝ }
+{
+    net::clear(ws, n * m);
+    let mut used = [0u32; 256];
+    let mut cut = advance(weights, joined, limits, n, m, ws, &mut used, s, t, 0);
+    while grows(cut.side, t, cut.size, bound) {
+        cut = advance(weights, joined, limits, n, m, ws, &mut used, s, t, cut.size);
+    }
+    cut
+}

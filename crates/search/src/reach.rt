@@ -1,0 +1,269 @@
+// The taxa that hops reach from s past the flow, breadth first. How each was reached goes into a lent tree, four numbers to a taxon: from which taxon,
+// through which column, at which turn, and the least that a hop of the way carries.
+use crate::net;
+ghost use mathlib.Core.Path.{_≡_};
+ghost use mathlib.Core.Bool.{true, false};
+ghost use Prim.Native.Nat.{ℕ, _+_, _-_, _≤_, _<_, _^_, min, max};
+ghost use lib.ListN.{length};
+ghost use Rattle.taxa.specs.Sets.{has};
+ghost use Rattle.search.specs.Workspace.{outs, inns, Entry};
+ghost use Rattle.search.specs.Network.{nth, Ready};
+ghost use Rattle.search.specs.Reaching.{IsGate, Grow, Offered, Passed, Missed, Spread, Waiting, Planted, Found};
+
+fn least(x: u32, y: u32) -> u32
+    ensures { λ r. ⌜ r ≡ min x y ⌝ }
+{
+    if x < y { x } else { y }
+}
+
+fn greatest(x: u32, y: u32) -> u32
+    ensures { λ r. ⌜ r ≡ max x y ⌝ }
+{
+    if x < y { y } else { x }
+}
+
+// What more can run one way: up to cap, with `back` to turn back and `used` in use.
+fn spare(cap: u32, back: u32, used: u32) -> u32
+    requires { ⌜ (used ≤ cap) × (cap < 65536) × (back ≤ cap) ⌝ }
+    ensures { λ r. ⌜ r ≡ cap + back - used ⌝ }
+{
+    cap + back - used
+}
+
+pub fn wide(x: u16) -> u32
+    ensures { λ r. ⌜ (r ≡ x) × (r < 65536) ⌝ }
+{
+    x as u32
+}
+
+// What a taxon finds at a column: the weight, what it can send, what it can turn back, and the column's room.
+struct Gate {
+    weight: u32,
+    sends: u32,
+    back: u32,
+    room: u32,
+}
+
+fn gate_at(
+    weights: &[u16],
+    limits: &[u32; 256],
+    n: usize,
+    ws: &[i32],
+    used: &[u32; 256],
+    c: usize,
+    i: usize,
+) -> Gate
+    requires { ⌜ (c < 256) × (c < length (now weights)) × (nth (now weights) c < 65536) × Entry (now ws) n c i (nth (now weights) c) × (nth (now used) c ≤ nth (now limits) c) ⌝ }
+    ensures { λ r. ⌜ IsGate (now (weights .entry)) (now (limits .entry)) (now (used .entry)) n (now (ws .entry)) c i (r .weight) (r .sends) (r .back) (r .room) ⌝ }
+{
+    let weight = wide(weights[c]);
+    let back = net::inn_in(ws, n, c, i);
+    let sends = spare(weight, back, net::out_in(ws, n, c, i));
+    Gate {
+        weight: weight,
+        sends: sends,
+        back: back,
+        room: limits[c] - used[c],
+    }
+}
+
+// What a hop to taxon j carries.
+fn carry_to(g: Gate, ws: &[i32], n: usize, c: usize, j: usize) -> u32
+    requires { ⌜ (g .weight < 65536) × Entry (now ws) n c j (g .weight) ⌝ }
+    ensures { λ r. ⌜ r ≡ min (min (g .sends) (g .weight + outs (now (ws .entry)) n c j - inns (now (ws .entry)) n c j)) (max (max (g .back) (outs (now (ws .entry)) n c j)) (g .room)) ⌝ }
+{
+    let out = net::out_in(ws, n, c, j);
+    let takes = spare(g.weight, out, net::inn_in(ws, n, c, j));
+    least(
+        least(g.sends, takes),
+        greatest(greatest(g.back, out), g.room),
+    )
+}
+
+// Taxon j is offered a hop from i through c that carries k: it joins, unless that is nothing.
+fn offer(tree: &mut [u32; 256], met: u64, j: usize, i: usize, c: usize, stamp: u32, k: u32) -> u64
+    requires { ⌜ (j < 64) × (i < 64) × (c < 256) × (length (now tree) ≡ 256) ⌝ }
+    ensures { λ r. ⌜ Offered met (now (tree .entry)) r (now (tree .exit)) j i c stamp k ⌝ }
+{
+    if k == 0 {
+        return met;
+    }
+    tree[4 * j] = i as u32;
+    tree[4 * j + 1] = c as u32;
+    tree[4 * j + 2] = stamp;
+    tree[4 * j + 3] = k;
+    taxa::union(met, taxa::single(j as u32))
+}
+
+// The taxa that a hop from i through column c reaches join.
+fn through(
+    weights: &[u16],
+    joined: &[u64; 256],
+    limits: &[u32; 256],
+    n: usize,
+    m: usize,
+    ws: &[i32],
+    used: &[u32; 256],
+    tree: &mut [u32; 256],
+    s: usize,
+    met: u64,
+    done: u64,
+    i: usize,
+    c: usize,
+) -> u64
+    requires { ⌜ Ready (now weights) (now joined) (now limits) n m (now ws) (now used) × Grow (now weights) (now joined) (now limits) n m (now ws) s met (now tree) done i × (c < m) × (has (nth (now joined) c) i ≡ true) ⌝ }
+    ensures { λ r. ⌜ Passed (now (weights .entry)) (now (joined .entry)) (now (limits .entry)) n m (now (ws .entry)) s met r (now (tree .exit)) done i c 0 ⌝ }
+{
+    let g = gate_at(weights, limits, n, ws, used, c, i);
+    if g.sends == 0 {
+        return met;
+    }
+    let stamp = taxa::size(done) + 1;
+    let mut all = met;
+    let mut left = taxa::difference(joined[c], met);
+    while 0 < left {
+        let j = taxa::lowest(left) as usize;
+        let k = least(carry_to(g, ws, n, c, j), tree[4 * i + 3]);
+        all = offer(tree, all, j, i, c, stamp, k);
+        left = taxa::rest(left);
+    }
+    all
+}
+
+// Whether a column that joins `joined` can lead from i to a taxon that is not met.
+fn worth(joined: u64, met: u64, i: usize) -> bool
+    requires { ⌜ i < 64 ⌝ }
+    ensures { λ r. ⌜ (r ≡ true → has joined i ≡ true) × (r ≡ false → (x : ℕ) → has joined i ≡ true → has joined x ≡ true → has met x ≡ true) ⌝ }
+{
+    if taxa::contains(joined, i as u32) {
+        0 < taxa::difference(joined, met)
+    } else {
+        false
+    }
+}
+
+// Whether a taxon of the goal is in a.
+fn hits(goal: u64, a: u64) -> bool
+    ensures { λ r. ⌜ (r ≡ false → Missed goal a) × (r ≡ true → Missed goal a → ⊥) ⌝ }
+{
+    0 < taxa::common(goal, a)
+}
+
+// All taxa that a hop from i reaches join, until one of the goal does.
+fn expand(
+    weights: &[u16],
+    joined: &[u64; 256],
+    limits: &[u32; 256],
+    n: usize,
+    m: usize,
+    ws: &[i32],
+    used: &[u32; 256],
+    tree: &mut [u32; 256],
+    s: usize,
+    met: u64,
+    done: u64,
+    i: usize,
+    goal: u64,
+) -> u64
+    requires { ⌜ Ready (now weights) (now joined) (now limits) n m (now ws) (now used) × Grow (now weights) (now joined) (now limits) n m (now ws) s met (now tree) done i ⌝ }
+    ensures { λ r. ⌜ Spread (now (weights .entry)) (now (joined .entry)) (now (limits .entry)) n m (now (ws .entry)) s r (now (tree .exit)) done i goal ⌝ }
+{
+    let mut all = met;
+    for c in 0..m {
+        if worth(joined[c], all, i) {
+            all = through(
+                weights,
+                joined,
+                limits,
+                n,
+                m,
+                ws,
+                used,
+                tree,
+                s,
+                all,
+                done,
+                i,
+                c,
+            );
+            if hits(goal, all) {
+                return all;
+            }
+        }
+    }
+    all
+}
+
+// The taxa to look at next: those of the layer that are left, or else all that are left.
+fn front(layer: u64, left: u64) -> u64
+    requires { ⌜ 0 < left ⌝ }
+    ensures { λ r. ⌜ (0 < r) × ((x : ℕ) → has r x ≡ true → has left x ≡ true) ⌝ }
+{
+    let rest = taxa::common(layer, left);
+    if 0 < rest { rest } else { left }
+}
+
+// The taxa of a that are not done, until a taxon of the goal is reached.
+fn waiting(a: u64, done: u64, goal: u64) -> u64
+    ensures { λ r. ⌜ Waiting a done goal r ⌝ }
+{
+    if hits(goal, a) {
+        0
+    } else {
+        taxa::difference(a, done)
+    }
+}
+
+// The tree of s alone, which has turn 0.
+fn plant(tree: &mut [u32; 256], s: usize) -> u64
+    requires { ⌜ (s < 64) × (length (now tree) ≡ 256) ⌝ }
+    ensures { λ r. ⌜ (r ≡ 2 ^ s) × Planted (now (tree .exit)) s ⌝ }
+{
+    tree[4 * s + 2] = 0;
+    tree[4 * s + 3] = 4294967295;
+    taxa::single(s as u32)
+}
+
+// The taxa that hops reach from s; some of them only, once a taxon of the goal is among them.
+pub fn reach(
+    weights: &[u16],
+    joined: &[u64; 256],
+    limits: &[u32; 256],
+    n: usize,
+    m: usize,
+    ws: &[i32],
+    used: &[u32; 256],
+    tree: &mut [u32; 256],
+    s: usize,
+    goal: u64,
+) -> u64
+    requires { ⌜ Ready (now weights) (now joined) (now limits) n m (now ws) (now used) × (length (now tree) ≡ 256) × (s < n) ⌝ }
+    ensures { λ r. ⌜ Found (now (weights .entry)) (now (joined .entry)) (now (limits .entry)) n m (now (ws .entry)) s r (now (tree .exit)) goal ⌝ }
+{
+    let mut met = plant(tree, s);
+    let mut done: u64 = 0;
+    let mut layer: u64 = 0;
+    let mut left = waiting(met, done, goal);
+    while 0 < left {
+        layer = front(layer, left);
+        let i = taxa::lowest(layer);
+        met = expand(
+            weights,
+            joined,
+            limits,
+            n,
+            m,
+            ws,
+            used,
+            tree,
+            s,
+            met,
+            done,
+            i as usize,
+            goal,
+        );
+        done = taxa::union(done, taxa::single(i));
+        left = waiting(met, done, goal);
+    }
+    met
+}

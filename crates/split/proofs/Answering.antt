@@ -1,0 +1,111 @@
+-- The operation "split": the rows of its table, what the search is given and finds, and what is left of the workspace.
+use mathlib.Core.Path.{_≡_, refl, sym, ap, ap₂, _∙_}
+use mathlib.Core.Bool.{Bool, true, false, _||_}
+use mathlib.Core.List.{List}
+use Prim.Native.Nat.{ℕ, _*_, _^_, _≤_, _<_}
+use native.Mathlib.Omega.{arith}
+use lib.Dec.{ltb}
+use lib.IntN.{ℤ}
+use lib.ListN.{length}
+use borrow.Author.Tests.{lt-ltb, le-ltb}
+use Rattle.taxa.specs.Sets.{within, count, all}
+use Rattle.taxa.proofs.Members.{⊆-≤, all-<, within-⊆}
+use Rattle.taxa.proofs.Counts.{count-width}
+use Rattle.record.specs.Bytes.{File}
+use Rattle.record.specs.Records.{refused}
+use Rattle.record.specs.declared.Refusal.{Refusal}
+use Rattle.matrix.specs.declared.Checked.{Checked}
+use Rattle.matrix.specs.declared.Checked.the-variants as checked
+use Rattle.matrix.specs.Check.{checked}
+use Rattle.method.specs.Split.{Column, side, splitCost, parted}
+use Rattle.method.specs.Tree.{column}
+use Rattle.search.specs.Search.{Given}
+use Rattle.search.specs.Workspace.{cleared}
+use Rattle.split.specs.declared.Divided.{Divided as Answer}
+use Rattle.split.specs.declared.Divided.the-variants.{Taken, Refused}
+use Rattle.split.specs.Columns.{Parallel, matrixIn}
+use Rattle.split.specs.Groups.{IsSplit}
+use Rattle.split.specs.Operation.{Splittable, splitOf, noGroup, answered, divided, workspaceAfter, returned, splitNumbers}
+use Rattle.split.proofs.Soundness.{taken-count, taken-known, few-taxa, few-columns}
+
+-- ---- the rows of the table
+
+module _ (n m : ℕ) (file : List ℕ) (S room : ℕ) where
+  no-group : noGroup n S ≡ true → Refused (refused 11 0) ≡ answered (checked.Taken n m) file S room
+  unfolding answered
+  no-group e = rw e
+
+  pub one-taxon : count 64 S < 2 → Refused (refused 11 0) ≡ answered (checked.Taken n m) file S room
+  one-taxon l = no-group (rw (lt-ltb (count 64 S) 2 l))
+
+  pub unknown-taxon : within S (all n) ≡ false → Refused (refused 11 0) ≡ answered (checked.Taken n m) file S room
+  unknown-taxon e = no-group (rw e (either (ltb (count 64 S) 2)))
+    where
+      either : (p : Bool) → (p || true) ≡ true
+      either true = refl
+      either false = refl
+
+  a-group : 2 ≤ count 64 S → within S (all n) ≡ true → noGroup n S ≡ false
+  a-group two known = rw (le-ltb (count 64 S) 2 two, known)
+
+  pub no-room : 2 ≤ count 64 S → within S (all n) ≡ true → room < n * m → Refused (refused 9 0) ≡ answered (checked.Taken n m) file S room
+  unfolding answered
+  no-room two known l = rw (a-group two known, lt-ltb room (n * m) l)
+
+  pub all-tested : Splittable file S n m room → splitOf (matrixIn file) S ≡ answered (checked.Taken n m) file S room
+  unfolding answered
+  all-tested s = rw (a-group (s .two) (within-⊆ S (all n) .1 (s .known)), le-ltb room (n * m) (s .long))
+
+-- ---- what the search is given, and what it finds
+
+module _ {file : List ℕ} {S n m room : ℕ} (f : File file) (s : Splittable file S n m room) where
+  taxa-few : n ≤ 64
+  taxa-few = few-taxa f (s .taken)
+
+  below-n : S < 2 ^ n
+  below-n = omega (arith, ⊆-≤ (s .known), all-< n)
+
+  two-of-n : 1 < count n S
+  two-of-n = omega (arith, s .two, count-width taxa-few below-n)
+
+  module _ {ws os zs : List ℕ} (p : Parallel ws os zs) (long : length ws ≡ m) where
+    pub given : Given ws os zs S n m
+    given = record {
+      taxa = taxa-few;
+      columns = few-columns f (s .taken);
+      weights = omega arith;
+      ones = omega arith;
+      zeros = omega arith;
+      group = below-n;
+      two = two-of-n;
+    }
+
+  -- The method's answer for columns.
+  abbrev taken-of : ℕ → (ℕ → Column) → Answer
+  taken-of k cols = Taken (splitCost 64 k cols S) (side 64 k cols S) (parted 64 S (side 64 k cols S))
+
+  pub found : {cols : ℕ → Column} {cost t A : ℕ} → IsSplit m cols S cost A t → cols ≡ column (matrixIn file .columns) → Taken cost A t ≡ splitOf (matrixIn file) S
+  unfolding splitOf
+  found d e = (λ i. Taken (d .is-cost i) (d .is-side i) (d .is-parted i)) ∙ ap₂ taken-of (sym (taken-count f (s .taken))) e
+
+-- ---- what is left of the workspace
+
+pub cleared-after : {file : List ℕ} {n m : ℕ} → File file → checked.Taken n m ≡ checked file → (S : ℕ) (ws : List ℤ) {r : Answer} → r ≡ splitOf (matrixIn file) S
+    → cleared (n * m) ws ≡ workspaceAfter file r ws
+unfolding workspaceAfter splitOf
+cleared-after f taken S ws e = rw e (ap₂ (λ (n m : ℕ). cleared (n * m) ws) (sym (taken-known f taken)) (sym (taken-count f taken)))
+
+pub left-alone : (file : List ℕ) (why : Refusal) (ws : List ℤ) → ws ≡ workspaceAfter file (Refused why) ws
+unfolding workspaceAfter
+left-alone file why ws = refl
+
+-- ---- the whole answer
+
+module _ (file : List ℕ) (S room : ℕ) where
+  pub file-refused : (why : Refusal) → Refused why ≡ answered (checked.Refused why) file S room
+  unfolding answered
+  file-refused why = refl
+
+  pub outcome : {k : Checked} {r : Answer} → k ≡ checked file → r ≡ answered k file S room → (r ≡ divided file S room) × (returned r ≡ splitNumbers file S room)
+  unfolding divided
+  outcome e a = let whole = a ∙ ap (λ (k : Checked). answered k file S room) e in (whole, ap returned whole)

@@ -1,0 +1,65 @@
+-- The matrix in a file that the check takes is sound, as all theorems of the method ask (`taken-sound`), and its taxa and columns are counted by n and m.
+use mathlib.Core.Path.{_≡_, sym, _∙_}
+use mathlib.Core.List.{List}
+use Prim.Native.Nat.{ℕ, zero, suc, _+_, _*_, _≤_, _<_}
+use native.Mathlib.Nat.{mul-le-mul}
+use native.Mathlib.Omega.{arith}
+use lib.ListN.{length, getD, length-map, List·getD-map}
+use Rattle.taxa.proofs.Members.{∩-disjoint}
+use Rattle.record.specs.Bytes.{File}
+use Rattle.matrix.specs.declared.Column as matrix
+use Rattle.matrix.specs.declared.Checked.the-variants.{Taken}
+use Rattle.matrix.specs.Check.{checked}
+use Rattle.matrix.specs.Matrix.{LegalColumn, LegalColumns, none, one, matrixOf}
+use Rattle.matrix.proofs.Taken.{taken-length, taken-taxa, taken-columns, taken-legal}
+use Rattle.method.specs.Tree.{Sound, column}
+use Rattle.split.specs.Columns.{columnOf, matrixIn}
+use Rattle.split.proofs.Loading.{blank}
+
+-- Each of a list of legal columns is legal.
+legal-at : {n : ℕ} {cs : List matrix.Column} → LegalColumns n cs → (c : ℕ) → c < length cs → LegalColumn n (getD cs c blank)
+legal-at none c b = absurd (omega arith)
+legal-at (one l ls) zero b = l
+legal-at (one l ls) (suc c) b = legal-at ls c (omega arith)
+
+module _ {file : List ℕ} (f : File file) {n m : ℕ} (taken : Taken n m ≡ checked file) where
+  pub taken-count : length (matrixIn file .columns) ≡ m
+  taken-count = length-map (matrixOf file .columns) columnOf ∙ taken-columns f taken
+
+  pub taken-known : matrixIn file .taxa ≡ n
+  taken-known = taken-taxa f taken
+
+  -- "n is 1 to 64, m is 0 to 256".
+  pub few-taxa : n ≤ 64
+  few-taxa = omega (arith, taken-legal f taken .taxa-fit, taken-taxa f taken)
+
+  pub few-columns : m ≤ 256
+  few-columns = omega (arith, taken-legal f taken .columns-fit, taken-columns f taken)
+
+  pub few-pairs : n * m ≤ 16384
+  few-pairs = omega (arith, mul-le-mul few-taxa few-columns)
+
+  -- Lists of m places take the file's columns.
+  pub can-load : {k : ℕ} → k ≡ m → (k ≡ length (matrixIn file .columns)) × (12 + 22 * k ≤ length file)
+  can-load long = (long ∙ sym taken-count, omega (arith, taken-length f taken))
+
+  -- What the check has seen of a column.
+  taken-column : {c : ℕ} → c < length (matrixIn file .columns) → (it : matrix.Column) × (column (matrixIn file .columns) c ≡ columnOf it) × LegalColumn (matrixIn file .taxa) it
+  unfolding column
+  taken-column {c} b =
+      let cs = matrixOf file .columns in
+      (getD cs c blank, List·getD-map columnOf cs c blank, legal-at (taken-legal f taken .columns-legal) c (omega (arith, length-map cs columnOf)))
+
+  pub taken-sound : Sound (matrixIn file)
+  taken-sound =
+      let legal = taken-legal f taken in
+      record {
+        some = legal .some-taxa;
+        few = legal .taxa-fit;
+        columns-few = omega (arith, taken-count, few-columns);
+        weighs = λ c b. let (it, is, l) = taken-column b in rw is (l .weighs);
+        light = λ c b. let (it, is, l) = taken-column b in rw is (omega (arith, l .weight-fits));
+        ones-in = λ c b. let (it, is, l) = taken-column b in rw is (l .ones-known);
+        zeros-in = λ c b. let (it, is, l) = taken-column b in rw is (l .zeros-known);
+        proper = λ c b. let (it, is, l) = taken-column b in rw is (∩-disjoint (l .apart));
+      }

@@ -1,0 +1,70 @@
+-- `split::split_loaded` meets its contract: the file's columns are loaded, and the method's split of them is the file's.
+use borrow.Author.Needs.{needs}
+use native.Mathlib.Omega.{arith}
+use mathlib.Core.Path.{_∙_}
+use Rattle.record.specs.Bytes.{File}
+use Rattle.split.proofs.Soundness.{can-load}
+use Rattle.split.proofs.Dividing.{t-small}
+use Rattle.split.proofs.Answering.{given, found}
+use Rattle.split.proofs.split_loaded.Statement.{statement}
+use Rattle.split.proofs.split_loaded.Tie as tie
+
+-- The file's elements are bytes.
+bytes : (c : tie.After-shared-slice-known) → File (c .before .args .file .now)
+bytes c = record { byte = λ i. omega (arith, c .shared-slice-known .given i) }
+
+-- The way back: from the division to the loading, and from there to what is known of the file.
+abbrev loading : tie.After-divide → tie.After-load
+loading c = c .before .before .before .before .before .before .before .before .before .before .before
+
+abbrev entry : tie.After-load → tie.After-shared-slice-known
+entry c = c .before .before .before .before .before .before .before
+
+load-requires : tie.Need-load-requires
+load-requires c κs =
+    let at = c .before .before .before .before .before .before in
+    let pre = at .before .pre in
+    let fits = can-load (bytes at) (pre .0 .taken) (pre .2) in
+    (pre .1, fits .0, fits .1)
+
+divide-requires : tie.Need-divide-requires
+divide-requires c κs =
+    let load = c .before .before .before .before .before .before .before .before .before .before in
+    let at = entry load in
+    let pre = at .before .pre in
+    (given (bytes at) (pre .0) (load .load .ensures .1) (load .load .ensures .2 ∙ pre .2), pre .0 .long)
+
+cast-t25 : tie.Need-cast-t25
+cast-t25 c = omega (arith, t-small (c .before .before .divide .ensures .0))
+
+same-length : tie.Need-same-length
+same-length c = search needs
+
+same-length-2 : tie.Need-same-length-2
+same-length-2 c = search needs
+
+same-length-3 : tie.Need-same-length-3
+same-length-3 c = search needs
+
+same-length-4 : tie.Need-same-length-4
+same-length-4 c = search needs
+
+returns : tie.Need-returns
+returns c =
+    let division = c .before .before in
+    let load = loading division in
+    let at = entry load in
+    (found (bytes at) (at .before .pre .0) (division .divide .ensures .0) (load .load .ensures .0), division .divide .ensures .1)
+
+pub split-loaded-spec : {M : Type 1} → statement M
+split-loaded-spec =
+    tie.close
+    (tie.spec
+    load-requires
+    divide-requires
+    cast-t25
+    same-length
+    same-length-2
+    same-length-3
+    same-length-4
+    returns)

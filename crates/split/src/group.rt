@@ -1,0 +1,58 @@
+// One split of a group, on columns in three slices: the division, its flips, and the parts that the group hands on.
+use crate::columns;
+use crate::parts;
+use search::Split;
+ghost use mathlib.Core.Path.{_≡_};
+ghost use Prim.Native.Nat.{_*_, _≤_};
+ghost use lib.ListN.{length};
+ghost use Rattle.taxa.specs.Sets.{count};
+ghost use Rattle.search.specs.Search.{colsOf, Given};
+ghost use Rattle.search.specs.Workspace.{cleared};
+ghost use Rattle.split.specs.Columns.{Parallel};
+ghost use Rattle.split.specs.Groups.{IsSplit, HandsOn};
+
+// The division that document 01 takes. The search's flow is cleared away.
+pub fn divide(
+    weights: &[u16],
+    ones: &[u64],
+    zeros: &[u64],
+    group: u64,
+    n: usize,
+    m: usize,
+    workspace: &mut [i32],
+) -> Split
+    requires { ⌜ Given (now weights) (now ones) (now zeros) group n m × (n * m ≤ length (now workspace)) ⌝ }
+    ensures { λ r. ⌜ IsSplit m (colsOf (now (weights .entry)) (now (ones .entry)) (now (zeros .entry))) group (r .cost) (r .side) (r .other) × (now (workspace .exit) ≡ cleared (n * m) (now (workspace .entry))) ⌝ }
+{
+    let found = search::divide(weights, ones, zeros, group, n, m, workspace);
+    search::net::clear(workspace, n * m);
+    found
+}
+
+// What a group hands on: the split's cost, and how many parts were listed.
+pub struct Handed {
+    pub cost: u32,
+    pub number: usize,
+}
+
+// The split of a group of n taxa: the columns are flipped, and the parts go into the first places of a lent list.
+pub fn split_group(
+    weights: &[u16],
+    ones: &mut [u64],
+    zeros: &mut [u64],
+    group: u64,
+    n: usize,
+    workspace: &mut [i32],
+    list: &mut [u64],
+) -> Handed
+    requires { ⌜ Given (now weights) (now ones) (now zeros) group n (length (now weights)) × Parallel (now weights) (now ones) (now zeros) × (n * length (now weights) ≤ length (now workspace)) × (count 64 group ≤ length (now list)) ⌝ }
+    ensures { λ r. ⌜ HandsOn (now (weights .entry)) (now (ones .entry)) (now (zeros .entry)) (now (ones .exit)) (now (zeros .exit)) group (now (list .entry)) (now (list .exit)) (r .cost) (r .number) × (now (workspace .exit) ≡ cleared (n * length (now (weights .entry))) (now (workspace .entry))) ⌝ }
+{
+    let found = divide(weights, ones, zeros, group, n, weights.len(), workspace);
+    columns::flip_columns(weights, ones, zeros, group, found.side);
+    let number = parts::parts(ones, zeros, group, list);
+    Handed {
+        cost: found.cost,
+        number,
+    }
+}

@@ -1,0 +1,91 @@
+// One split in code: the flips of a division, the parts of what remains, and the operation "split".
+// Promises: flips and parts are the method's, column by column and part by part; the operation answers as document 01 says, for any bytes.
+// Rests on taxa, record, matrix, method and search.
+pub mod columns;
+pub mod group;
+pub mod parts;
+
+use matrix::Checked;
+use record::Refusal;
+ghost use mathlib.Core.Path.{_≡_};
+ghost use Prim.Native.Nat.{_*_};
+ghost use lib.ListN.{length};
+ghost use Rattle.matrix.specs.Check.{checked};
+ghost use Rattle.matrix.specs.declared.Checked.the-variants as checked;
+ghost use Rattle.search.specs.Workspace.{cleared};
+ghost use Rattle.split.specs.Columns.{Parallel, matrixIn};
+ghost use Rattle.split.specs.Operation.{Splittable, splitOf, answered, divided, workspaceAfter, returned, splitNumbers};
+
+// What the split answers: the division's cost, its side A and the taxon t, or the refusal.
+pub enum Divided {
+    Taken(u32, u64, u32),
+    Refused(Refusal),
+}
+
+// The split of a group that nothing refuses; the three slices are room for the file's columns.
+fn split_loaded(
+    file: &[u8],
+    weights: &mut [u16],
+    ones: &mut [u64],
+    zeros: &mut [u64],
+    group: u64,
+    n: usize,
+    m: usize,
+    workspace: &mut [i32],
+) -> Divided
+    requires { ⌜ Splittable (now file) group n m (length (now workspace)) × Parallel (now weights) (now ones) (now zeros) × (length (now weights) ≡ m) ⌝ }
+    ensures { λ r. ⌜ (r ≡ splitOf (matrixIn (now (file .entry))) group) × (now (workspace .exit) ≡ cleared (n * m) (now (workspace .entry))) ⌝ }
+{
+    columns::load(file, weights, ones, zeros);
+    let found = group::divide(weights, ones, zeros, group, n, m, workspace);
+    Divided::Taken(found.cost, found.side, found.other as u32)
+}
+
+// A matrix that is taken: the refusals of the group and of the workspace, and else the division.
+fn split_matrix(file: &[u8], group: u64, n: usize, m: usize, workspace: &mut [i32]) -> Divided
+    requires { ⌜ checked.Taken n m ≡ checked (now file) ⌝ }
+    ensures { λ r. ⌜ (r ≡ answered (checked.Taken n m) (now (file .entry)) group (length (now (workspace .entry)))) × (now (workspace .exit) ≡ workspaceAfter (now (file .entry)) r (now (workspace .entry))) ⌝ }
+{
+    if taxa::size(group) < 2 {
+        return Divided::Refused(Refusal {
+            number: 11,
+            place: 0,
+        });
+    }
+    if !taxa::subset(group, taxa::all(n as u32)) {
+        return Divided::Refused(Refusal {
+            number: 11,
+            place: 0,
+        });
+    }
+    if workspace.len() < n * m {
+        return Divided::Refused(Refusal {
+            number: 9,
+            place: 0,
+        });
+    }
+    let mut weights = [0u16; 256];
+    let mut ones = [0u64; 256];
+    let mut zeros = [0u64; 256];
+    split_loaded(
+        file,
+        &mut weights[..m],
+        &mut ones[..m],
+        &mut zeros[..m],
+        group,
+        n,
+        m,
+        workspace,
+    )
+}
+
+// The operation "split".
+pub fn split(file: &[u8], group: u64, workspace: &mut [i32]) -> Divided
+    ensures { λ r. ⌜ (r ≡ divided (now (file .entry)) group (length (now (workspace .entry)))) × (returned r ≡ splitNumbers (now (file .entry)) group (length (now (workspace .entry)))) × (now (workspace .exit) ≡ workspaceAfter (now (file .entry)) r (now (workspace .entry))) ⌝ }
+{
+    let answer = matrix::check(file);
+    match answer {
+        Checked::Taken(n, m) => split_matrix(file, group, n as usize, m as usize, workspace),
+        Checked::Refused(why) => Divided::Refused(why),
+    }
+}
