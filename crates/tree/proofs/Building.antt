@@ -1,0 +1,175 @@
+-- The build of a file that nothing refuses: what its steps ask for (`grow-ready`, `grow-room`, `to-write`), that what they come to is the content of the
+-- method's answer (`built-content`), and that writing it is not refused (`written-all`). Then the rows of
+-- the operation's table.
+use mathlib.Core.Path.{_≡_, refl, sym, ap, ap₂, _∙_}
+use mathlib.Core.Bool.{cond}
+use mathlib.Core.List.{List, [], _∷_, _++_}
+use Prim.Native.Nat.{ℕ, zero, suc, _+_, _*_, _^_, _≤_, _<_}
+use native.Mathlib.Omega.{arith}
+use lib.Dec.{eqb, ltb}
+use lib.IntN.{ℤ, pos}
+use lib.ListN.{length, drop, replicate, length-replicate}
+use lib.Seq.{drop-at}
+use borrow.Author.Tests.{lt-ltb, le-ltb}
+use Rattle.taxa.specs.Sets.{_∩_, count, all}
+use Rattle.taxa.proofs.Members.{all-<, all-fits}
+use Rattle.taxa.proofs.Counts.{count-all}
+use Rattle.record.specs.Bytes.{File, over}
+use Rattle.record.specs.Records.{refused}
+use Rattle.record.specs.declared.Refusal.{Refusal}
+use Rattle.matrix.specs.Check.{checked}
+use Rattle.matrix.specs.declared.Checked.{Checked}
+use Rattle.matrix.specs.declared.Checked.the-variants as checks
+use Rattle.answer.specs.declared.Written.the-variants as written
+use Rattle.answer.specs.Content.{Content, fileOf, lengthOf}
+use Rattle.answer.specs.Tests.{judge}
+use Rattle.answer.specs.Writing.{writeTests, writing}
+use Rattle.method.specs.Split.{Column}
+use Rattle.method.specs.Tree.{Group, Flips, Matrix, Sound, column, build, ordered, flipsOf, flipList, answer, total}
+use Rattle.method.proofs.Order.{build-length}
+use Rattle.method.proofs.Promises as promises
+use Rattle.search.specs.Workspace.{cleared}
+use Rattle.search.specs.Search.{colsOf}
+use Rattle.split.specs.Columns.{Parallel, matrixIn}
+use Rattle.split.proofs.Soundness.{taken-count, taken-known, few-taxa, few-columns, taken-sound}
+use Rattle.tree.specs.declared.Built.{Built}
+use Rattle.tree.specs.declared.Built.the-variants.{Refused}
+use Rattle.tree.specs.Lists.{groupsOf, Room, entries}
+use Rattle.tree.specs.Grow.{Ready, Grown, Walked, Answers}
+use Rattle.tree.specs.Build.{contentWith, contentFor, roomFor, takenOf, Buildable, answered, built, outputAfter, workspaceAfter, returned, buildNumbers}
+use Rattle.tree.proofs.Rules.{answer-passes, answer-fits, flips-few}
+
+-- A workspace that is cleared stays so.
+pub cleared-twice : (k : ℕ) (ws : List ℤ) → cleared k (cleared k ws) ≡ cleared k ws
+cleared-twice k ws = ap (_++_ (replicate k (pos 0))) (drop-at (replicate k (pos 0)) (drop k ws) k (length-replicate k (pos 0)))
+
+-- The flip list asks for no weight.
+same-flips : (m : ℕ) (ws ws′ os zs os′ zs′ : List ℕ) → flipList m (entries os zs) (entries os′ zs′) ≡ flipList m (colsOf ws os zs) (colsOf ws′ os′ zs′)
+unfolding flipList colsOf
+same-flips zero ws ws′ os zs os′ zs′ = refl
+same-flips (suc m) ws ws′ os zs os′ zs′ = rw (same-flips m ws ws′ os zs os′ zs′)
+
+module _ {file : List ℕ} {n m space room : ℕ} (f : File file) (b : Buildable file n m space room) where
+  abbrev M : Matrix
+  M = matrixIn file
+
+  abbrev file-columns : ℕ → Column
+  file-columns = column (M .columns)
+
+  ok : Sound M
+  ok = taken-sound f (b .taken)
+
+  -- ---- the walk from all taxa
+
+  pub grow-ready : {ws os zs : List ℕ} {clear : List ℤ} (before : List ℤ) → Parallel ws os zs → length ws ≡ m → clear ≡ cleared (n * m) before → length clear ≡ space
+      → Ready ws os zs (all n) n clear
+  grow-ready before p e c l =
+      record {
+        parallel = p;
+        columns = omega (arith, few-columns f (b .taken));
+        taxa = few-taxa f (b .taken);
+        group = all-< n;
+        places = rw e (omega (arith, b .places));
+        clear = rw (e, c) (cleared-twice (n * m) before);
+      }
+
+  few-groups : (cols : ℕ → Column) → length (build 64 m cols (all n) .groups) ≤ 63
+  few-groups cols =
+      let few = few-taxa f (b .taken) in
+      let size = count-all 64 n few in
+      omega (arith, build-length 64 m cols (all n) (all-fits 64 few) (omega (arith, ok .some, taken-known f (b .taken))))
+
+  pub grow-room : (ws os zs : List ℕ) {ts cs : List ℕ} → length ws ≡ m → length ts ≡ 63 → length cs ≡ 63 → Room (0 + length (build 64 (length ws) (colsOf ws os zs) (all n) .groups)) ts cs
+  grow-room ws os zs e t c = rw e (let few = few-groups (colsOf ws os zs) in record { taxa-room = omega arith; costs-room = omega arith })
+
+  -- ---- what it comes to
+
+  module _ (ws os zs ws′ os′ zs′ os″ zs″ ts cs ts′ cs′ : List ℕ) {clear clear′ : List ℤ} (k : ℕ) (before : colsOf ws os zs ≡ file-columns) (start : colsOf ws′ os′ zs′ ≡ file-columns)
+      (sized : length ws′ ≡ m) (g : Grown ws′ os″ zs″ clear clear′ (build 64 (length ws′) (colsOf ws′ os′ zs′) (all n)) (groupsOf ts cs 0) (groupsOf ts′ cs′ k) 0 k) where
+    walked-groups : groupsOf ts′ cs′ k ≡ build 64 (length (M .columns)) file-columns (all (M .taxa)) .groups
+    unfolding groupsOf
+    walked-groups = g .groups ∙ rw (sized, start, taken-count f (b .taken), taken-known f (b .taken))
+
+    groups-are : ordered 64 n (groupsOf ts′ cs′ k) ≡ answer M .groups
+    unfolding answer
+    groups-are = rw (walked-groups, taken-known f (b .taken))
+
+    flips-are : flipList m (entries os zs) (entries os″ zs″) ≡ answer M .flips
+    unfolding answer
+    flips-are =
+        same-flips m ws ws′ os zs os″ zs″
+        ∙ rw (before, g .columns, sized, start, taken-count f (b .taken), taken-known f (b .taken))
+
+    pub built-content : contentWith n m (ordered 64 n (groupsOf ts′ cs′ k)) (flipList m (entries os zs) (entries os″ zs″)) ≡ contentFor M
+    unfolding contentFor
+    built-content = rw (groups-are, flips-are, taken-count f (b .taken), taken-known f (b .taken))
+
+    pub to-write : length os ≡ m → length zs ≡ m → length os″ ≡ m → length zs″ ≡ m → length ts′ ≡ 63 → length cs′ ≡ 63 → Walked os zs os″ zs″ n m ts′ cs′ k
+    unfolding answer
+    to-write o z o″ z″ t c =
+        let few = rw (sized, start) at (g .many) in
+        record {
+          columns = few-columns f (b .taken);
+          ones = omega arith;
+          zeros = omega arith;
+          ones-after = omega arith;
+          zeros-after = omega arith;
+          listed = let l = few-groups file-columns in record { taxa-room = omega arith; costs-room = omega arith };
+          few = rw groups-are (omega (arith, promises.groups-few M ok, few-taxa f (b .taken), taken-known f (b .taken)));
+          small = rw groups-are (omega (arith, promises.total-small M ok));
+        }
+
+  -- ---- writing it
+
+  pub written-all : (listed : ℕ) → m ≤ listed → writing (contentFor M) listed room ≡ written.Length (lengthOf (contentFor M))
+  unfolding writing writeTests judge
+  written-all listed l =
+      rw (← answer-passes M ok listed (omega (arith, flips-few M ok, taken-count f (b .taken))), le-ltb room (lengthOf (contentFor M)) (omega (arith, answer-fits M ok, b .fits, taken-count f (b .taken), taken-known f (b .taken))))
+
+  -- So the build answers as it should, and the output holds the file.
+  pub answers-all : {c : Content} {out out′ : List ℕ} {r : Built} → c ≡ contentFor M → length out ≡ room → Answers c out r out′ → (r ≡ takenOf file) × (out′ ≡ over (fileOf (contentFor M)) 0 out)
+  answers-all e l a =
+      let w = written-all 256 (few-columns f (b .taken)) in
+      (rw (e, l, w) at (a .answers), rw (e, l, w) at (a .output))
+
+-- ---- the rows of the operation's table
+
+pub some-taxa : {file : List ℕ} {n m : ℕ} → File file → checks.Taken n m ≡ checked file → 0 < n
+some-taxa f taken = omega (arith, taken-sound f taken .some, taken-known f taken)
+
+module _ (file : List ℕ) (n m space room : ℕ) where
+  pub no-space : space < n * m → Refused (refused 9 0) ≡ answered (checks.Taken n m) file space room
+  unfolding answered
+  no-space l = rw (lt-ltb _ _ l)
+
+  pub no-output : n * m ≤ space → room < roomFor n m → Refused (refused 10 0) ≡ answered (checks.Taken n m) file space room
+  unfolding answered
+  no-output l k = rw (le-ltb _ _ l, lt-ltb _ _ k)
+
+  all-tested : Buildable file n m space room → takenOf file ≡ answered (checks.Taken n m) file space room
+  unfolding answered
+  all-tested b = rw (le-ltb _ _ (b .places), le-ltb _ _ (b .fits))
+
+  -- A build that nothing refuses.
+  pub taken-row : (out : List ℕ) (ws : List ℤ) {r : Built} {out′ : List ℕ} {ws′ : List ℤ} → File file → Buildable file n m space room → r ≡ takenOf file → out′ ≡ over (fileOf (contentFor (matrixIn file))) 0 out
+      → ws′ ≡ cleared (n * m) ws → (r ≡ answered (checks.Taken n m) file space room) × (out′ ≡ outputAfter file r out) × (ws′ ≡ workspaceAfter file r ws)
+  unfolding outputAfter workspaceAfter
+  taken-row out ws f b is output clear = (is ∙ all-tested b, rw is output, rw (is, taken-count f (b .taken), taken-known f (b .taken)) clear)
+
+-- A refusal changes no lent memory.
+pub output-left : (file : List ℕ) (why : Refusal) (out : List ℕ) → out ≡ outputAfter file (Refused why) out
+unfolding outputAfter
+output-left file why out = refl
+
+pub workspace-left : (file : List ℕ) (why : Refusal) (ws : List ℤ) → ws ≡ workspaceAfter file (Refused why) ws
+unfolding workspaceAfter
+workspace-left file why ws = refl
+
+-- What the check says decides.
+pub outcome : (file : List ℕ) (space room : ℕ) {k : Checked} {r : Built} → k ≡ checked file → r ≡ answered k file space room → (r ≡ built file space room) × (returned r ≡ buildNumbers file space room)
+unfolding built
+outcome file space room e is = let same = rw e at is in (same, ap returned same)
+
+pub refused-row : (file : List ℕ) (space room : ℕ) (why : Refusal) → Refused why ≡ answered (checks.Refused why) file space room
+unfolding answered
+refused-row file space room why = refl

@@ -1,0 +1,7 @@
+-- Laws of the lists of an answer.
+pub mod Lists
+pub mod Walking
+pub mod Opening
+pub mod Rules
+pub mod Writing
+pub mod Building

@@ -1,0 +1,48 @@
+-- `tree::build` meets its contract: the file's refusal, or the answer for a matrix that is taken.
+use borrow.Author.Needs.{needs}
+use mathlib.Core.Path.{sym, _∙_}
+use Rattle.tree.proofs.Building.{outcome, refused-row, output-left, workspace-left}
+use Rattle.tree.proofs.build.Statement.{statement}
+use Rattle.tree.proofs.build.Tie as tie
+
+check-requires : tie.Need-check-requires
+check-requires c κs = search needs
+
+enum-known-answer : tie.Need-enum-known-answer
+enum-known-answer c = search needs
+
+build-matrix-requires : tie.Need-build-matrix-requires
+build-matrix-requires c κs = sym (c .before .before .before .answer .given .1) ∙ c .before .before .before .before .before .check .ensures .0
+
+enum-known-answer-2 : tie.Need-enum-known-answer-2
+enum-known-answer-2 c = search needs
+
+same-length : tie.Need-same-length
+same-length c = search needs
+
+same-length-2 : tie.Need-same-length-2
+same-length-2 c = search needs
+
+returns : tie.Need-returns
+returns c =
+    let made = c .before .before .before .build-matrix .ensures in
+    let told = c .before .before .before .before .before .before .before in
+    (outcome _ _ _ (sym (told .answer .given .1) ∙ told .before .before .check .ensures .0) (made .0), (made .1, made .2))
+
+returns-2 : tie.Need-returns-2
+returns-2 c =
+    let told = c .before in
+    (outcome _ _ _ (sym (told .answer2 .given .1) ∙ told .before .before .check .ensures .0) (refused-row _ _ _ _), (output-left _ _ _, workspace-left _ _ _))
+
+pub build-spec : {M : Type 1} → statement M
+build-spec =
+    tie.close
+    (tie.spec
+    check-requires
+    enum-known-answer
+    build-matrix-requires
+    enum-known-answer-2
+    same-length
+    same-length-2
+    returns
+    returns-2)

@@ -1,0 +1,133 @@
+-- `tree::write_answer` meets its contract: the value handed to the writing of answers holds the content of the two lists.
+use borrow.Author.Needs.{needs}
+use native.Mathlib.Omega.{arith}
+use mathlib.Core.Path.{_≡_, sym, ap, _∙_}
+use Rattle.method.specs.Tree.{ordered, flipList, total}
+use Rattle.answer.specs.Content.{contentOf}
+use Rattle.answer.specs.Reading.{listed}
+use Rattle.tree.specs.Lists.{groupsOf, entries}
+use Rattle.tree.specs.Build.{contentWith}
+use Rattle.tree.proofs.Lists.{total-of, list-few}
+use Rattle.tree.proofs.Writing.{content-is, answers-as}
+use Rattle.tree.proofs.write_answer.Statement.{statement}
+use Rattle.tree.proofs.write_answer.Tie as tie
+
+slice-aggregate-in-order : tie.Need-slice-aggregate-in-order
+slice-aggregate-in-order c = search needs
+
+slice-aggregate-in-order-2 : tie.Need-slice-aggregate-in-order-2
+slice-aggregate-in-order-2 c = search needs
+
+in-order-requires : tie.Need-in-order-requires
+in-order-requires c κs = search needs
+
+slice-aggregate-sum-costs : tie.Need-slice-aggregate-sum-costs
+slice-aggregate-sum-costs c = search needs
+
+sum-costs-requires : tie.Need-sum-costs-requires
+sum-costs-requires c κs =
+    let p = c .before .before .before .before .before .before .before .before .before .before .before .before .before .pre in
+    let o = c .before .before .before .in-order in
+    let total = ap total (sym (o .ensures .1)) ∙ total-of _ _ (o .result) in
+    (omega (arith, p .few, o .ensures .0), omega (arith, p .small, total))
+
+slice-aggregate-list-flips : tie.Need-slice-aggregate-list-flips
+slice-aggregate-list-flips c = search needs
+
+slice-aggregate-list-flips-2 : tie.Need-slice-aggregate-list-flips-2
+slice-aggregate-list-flips-2 c = search needs
+
+slice-aggregate-list-flips-3 : tie.Need-slice-aggregate-list-flips-3
+slice-aggregate-list-flips-3 c = search needs
+
+list-flips-requires : tie.Need-list-flips-requires
+list-flips-requires c κs = search needs
+
+cast-t37 : tie.Need-cast-t37
+cast-t37 c = search needs
+
+cast-t38 : tie.Need-cast-t38
+cast-t38 c =
+    let a = c .before .before .before .before .before .before .before .before .before .before .before .before .before .before .before .before .before .before .before .before .before .args in
+    omega (arith, c .before .before .before .list-flips .ensures .0, list-few (entries (a .ones .now) (a .zeros .now)) (entries (a .after .now) (a .off .now)) (a .m), c .before .before .before .before .before .before .before .before .before .before .before .before .before .before .before .before .before .before .before .before .before .pre .columns)
+
+slice-aggregate-write : tie.Need-slice-aggregate-write
+slice-aggregate-write c = search needs
+
+slice-aggregate-write-2 : tie.Need-slice-aggregate-write-2
+slice-aggregate-write-2 c = search needs
+
+slice-aggregate-write-3 : tie.Need-slice-aggregate-write-3
+slice-aggregate-write-3 c = search needs
+
+write-requires : tie.Need-write-requires
+write-requires c κs = search needs
+
+enum-known-written : tie.Need-enum-known-written
+enum-known-written c = search needs
+
+enum-known-written-2 : tie.Need-enum-known-written-2
+enum-known-written-2 c = search needs
+
+same-length : tie.Need-same-length
+same-length c = search needs
+
+-- The value handed on holds the content of the two lists.
+content : (c : tie.After-slice-known2) → let a = c .before .before .before .before .before .before .before .before .before .before .before .before .before .before .before .before .before .before .before .before .before .before .before .before .before .before .before .before .args in
+    contentOf (record { n = a .n; m = a .m; groups = c .before .before .before .before .before .before .before .before .before .before .before .before .before .before .before .before .before .before .in-order .result; flips = c .before .before .before .before .before .before .before .before .before .before .list-flips .result; total = c .before .before .before .before .before .before .before .before .before .before .before .before .before .before .sum-costs .result; taxa = c .before .before .before .before .before .before .before .before .before .before .before .before .before .before .before .before .before .before .in-order .last .1 .1 .1 .1 .0; costs = c .before .before .before .before .before .before .before .before .before .before .before .before .before .before .before .before .before .before .in-order .last .1 .1 .1 .1 .1 .0 }) (c .before .before .before .before .before .before .before .before .before .before .list-flips .last .1 .1 .1 .1 .1 .0) (c .before .before .before .before .before .before .before .before .before .before .list-flips .last .1 .1 .1 .1 .1 .1 .0) (c .before .before .before .before .before .before .before .before .before .before .list-flips .last .1 .1 .1 .1 .1 .1 .1 .0)
+    ≡ contentWith (a .n) (a .m) (ordered 64 (a .n) (groupsOf (a .walked .now) (a .paid .now) (a .k))) (flipList (a .m) (entries (a .ones .now) (a .zeros .now)) (entries (a .after .now) (a .off .now)))
+content c =
+    let a = c .before .before .before .before .before .before .before .before .before .before .before .before .before .before .before .before .before .before .before .before .before .before .before .before .before .before .before .before .args in
+    let p = c .before .before .before .before .before .before .before .before .before .before .before .before .before .before .before .before .before .before .before .before .before .before .before .before .before .before .before .before .pre in
+    let order = c .before .before .before .before .before .before .before .before .before .before .before .before .before .before .before .before .before .before .in-order in
+    let flips = c .before .before .before .before .before .before .before .before .before .before .list-flips in
+    let sum = c .before .before .before .before .before .before .before .before .before .before .before .before .before .before .sum-costs .ensures ∙ sym (total-of _ _ (order .result)) ∙ ap total (order .ensures .1) in
+    let few = list-few (entries (a .ones .now) (a .zeros .now)) (entries (a .after .now) (a .off .now)) (a .m) in
+    content-is (a .n) (a .m)
+    (record { taxa-room = omega (arith, p .few, order .ensures .0, order .kept .1 .1 .1 .1 .0); costs-room = omega (arith, p .few, order .ensures .0, order .kept .1 .1 .1 .1 .1 .0) })
+    (order .ensures .0) (order .ensures .1)
+    (record { columns-room = omega (arith, p .columns, flips .ensures .0, flips .kept .1 .1 .1 .1 .1 .0); raised-room = omega (arith, p .columns, flips .ensures .0, flips .kept .1 .1 .1 .1 .1 .1 .0); lowered-room = omega (arith, p .columns, flips .ensures .0, flips .kept .1 .1 .1 .1 .1 .1 .1 .0) })
+    (flips .ensures .0) (flips .ensures .1) sum
+
+entries-all : (c : tie.After-slice-known2) → listed (c .before .before .before .before .before .before .before .before .before .before .list-flips .last .1 .1 .1 .1 .1 .0) (c .before .before .before .before .before .before .before .before .before .before .list-flips .last .1 .1 .1 .1 .1 .1 .0) (c .before .before .before .before .before .before .before .before .before .before .list-flips .last .1 .1 .1 .1 .1 .1 .1 .0) ≡ 256
+entries-all c = let kept = c .before .before .before .before .before .before .before .before .before .before .list-flips .kept in omega (arith, kept .1 .1 .1 .1 .1 .0, kept .1 .1 .1 .1 .1 .1 .0, kept .1 .1 .1 .1 .1 .1 .1 .0)
+
+returns : tie.Need-returns
+returns c =
+    let at = c .before .before .before in
+    let sum = at .before .before .before .before .before .before .before .before .before .before .before .before .before .before .sum-costs .ensures ∙ sym (total-of _ _ _) ∙ ap total (at .before .before .before .before .before .before .before .before .before .before .before .before .before .before .before .before .before .before .in-order .ensures .1) in
+    answers-as (at .before .before .write .ensures) (content at) (entries-all at) (rw (c .before .written .given .1, sum))
+
+same-length-2 : tie.Need-same-length-2
+same-length-2 c = search needs
+
+returns-2 : tie.Need-returns-2
+returns-2 c =
+    let at = c .before .before .before in
+    answers-as (at .before .before .write .ensures) (content at) (entries-all at) (rw (c .before .written2 .given .1))
+
+pub write-answer-spec : {M : Type 1} → statement M
+write-answer-spec =
+    tie.close
+    (tie.spec
+    slice-aggregate-in-order
+    slice-aggregate-in-order-2
+    in-order-requires
+    slice-aggregate-sum-costs
+    sum-costs-requires
+    slice-aggregate-list-flips
+    slice-aggregate-list-flips-2
+    slice-aggregate-list-flips-3
+    list-flips-requires
+    cast-t37
+    cast-t38
+    slice-aggregate-write
+    slice-aggregate-write-2
+    slice-aggregate-write-3
+    write-requires
+    enum-known-written
+    enum-known-written-2
+    same-length
+    returns
+    same-length-2
+    returns-2)

@@ -1,0 +1,98 @@
+-- The operation "build": a matrix file, a lent workspace and a lent output (document 01, "Operations and refusals").
+use mathlib.Core.Path.{_≡_}
+use mathlib.Core.Bool.{cond}
+use mathlib.Core.List.{List, map}
+use Prim.Native.Nat.{ℕ, _+_, _-_, _*_, _≤_}
+use lib.Dec.{ltb}
+use lib.IntN.{ℤ}
+use lib.ListN.{length}
+use Rattle.record.specs.Bytes.{over}
+use Rattle.record.specs.Records.{refused}
+use Rattle.matrix.specs.declared.Checked.{Checked}
+use Rattle.matrix.specs.declared.Checked.the-variants as checks
+use Rattle.matrix.specs.Check.{checked}
+use Rattle.answer.specs.Content.{Content, fileOf, lengthOf}
+use Rattle.method.specs.Tree.{Group, Flips, Matrix, answer, total}
+use Rattle.search.specs.Workspace.{cleared}
+use Rattle.split.specs.Columns.{matrixIn}
+use Rattle.tree.specs.declared.Built.{Built}
+use Rattle.tree.specs.declared.Built.the-variants.{Taken, Refused}
+
+-- Groups and flips as an answer file holds them; "total is the sum of the split costs".
+abbrev pub contentWith : ℕ → ℕ → List Group → List Flips → Content
+contentWith n m gs fs =
+    record {
+      n = n;
+      m = m;
+      groups = length gs;
+      flips = length fs;
+      total = total gs;
+      taxa = map (λ (g : Group). g .taxa) gs;
+      costs = map (λ (g : Group). g .cost) gs;
+      columns = map (λ (f : Flips). f .column) fs;
+      raised = map (λ (f : Flips). f .raised) fs;
+      lowered = map (λ (f : Flips). f .lowered) fs;
+    }
+
+-- The method's answer to a matrix, as its answer file holds it.
+unfoldable pub contentFor : Matrix → Content
+contentFor M = contentWith (M .taxa) (length (M .columns)) (answer M .groups) (answer M .flips)
+
+-- "build, output below 20 + 16(n-1) + 22m bytes".
+abbrev pub roomFor : ℕ → ℕ → ℕ
+roomFor n m = 20 + 16 * (n - 1) + 22 * m
+
+-- "Length written and total."
+abbrev pub takenOf : List ℕ → Built
+takenOf file = Taken (lengthOf (contentFor (matrixIn file))) (contentFor (matrixIn file) .total)
+
+-- "The file's refusals come first, then [..] 9, 10", the last two at 0; `space` and `room` are the lengths of the workspace and of the output.
+unfoldable pub answered : Checked → List ℕ → ℕ → ℕ → Built
+answered (checks.Refused why) file space room = Refused why
+answered (checks.Taken n m) file space room =
+    cond (ltb space (n * m)) (Refused (refused 9 0))
+    (cond (ltb room (roomFor n m)) (Refused (refused 10 0))
+    (takenOf file))
+
+-- What the build of a file answers: "length written and total".
+unfoldable pub built : List ℕ → ℕ → ℕ → Built
+built file space room = answered (checked file) file space room
+
+-- "A refusal [..] changes no lent memory." "Output past the written length stays as it was."
+unfoldable pub outputAfter : List ℕ → Built → List ℕ → List ℕ
+outputAfter file (Refused why) out = out
+outputAfter file (Taken size sum) out = over (fileOf (contentFor (matrixIn file))) 0 out
+
+-- "After build or split the first n x m workspace numbers are 0, the rest untouched."
+unfoldable pub workspaceAfter : List ℕ → Built → List ℤ → List ℤ
+workspaceAfter file (Refused why) ws = ws
+workspaceAfter file (Taken size sum) ws = let M = matrixIn file in cleared (M .taxa * length (M .columns)) ws
+
+-- Document 01's numbers for each case: "a refusal returns its number and place, 0 for every other number"; "success returns 0, place 0 and, for
+-- [..] build, length written and total".
+pub record Returned : Type 0 where
+  pub number : ℕ
+  pub place : ℕ
+  pub size : ℕ
+  pub sum : ℕ
+
+abbrev pub returned : Built → Returned
+returned (Taken size sum) = record { number = 0; place = 0; size = size; sum = sum }
+returned (Refused why) = record { number = why .number; place = why .place; size = 0; sum = 0 }
+
+abbrev pub buildNumbers : List ℕ → ℕ → ℕ → Returned
+buildNumbers file space room = returned (built file space room)
+
+-- What has been tested where nothing is refused.
+pub record Buildable (file : List ℕ) (n m space room : ℕ) : Type 0 where
+  pub taken : checks.Taken n m ≡ checked file
+  pub places : n * m ≤ space
+  pub fits : roomFor n m ≤ room
+
+-- Five slices, with an entry for each of m columns.
+pub record Slices (m : ℕ) (weights ones zeros after off : List ℕ) : Type 0 where
+  pub weights-all : length weights ≡ m
+  pub ones-all : length ones ≡ m
+  pub zeros-all : length zeros ≡ m
+  pub after-all : length after ≡ m
+  pub off-all : length off ≡ m

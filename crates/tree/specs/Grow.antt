@@ -1,0 +1,60 @@
+-- What the functions of the walk hand to each other.
+use mathlib.Core.Path.{_≡_}
+use mathlib.Core.List.{List, _++_}
+use Prim.Native.Nat.{ℕ, _+_, _*_, _^_, _≤_, _<_}
+use lib.IntN.{ℤ}
+use lib.ListN.{length, getD}
+use Rattle.taxa.specs.Sets.{count}
+use Rattle.method.specs.Tree.{Group, Walk, ordered, total}
+use Rattle.answer.specs.declared.Written.{Written}
+use Rattle.answer.specs.declared.Written.the-variants as written
+use Rattle.answer.specs.Content.{Content, fileOf}
+use Rattle.answer.specs.Writing.{writing, put}
+use Rattle.search.specs.Workspace.{cleared}
+use Rattle.search.specs.Search.{colsOf}
+use Rattle.split.specs.Columns.{Parallel}
+use Rattle.tree.specs.declared.Built.{Built}
+use Rattle.tree.specs.declared.Built.the-variants.{Taken, Refused}
+use Rattle.tree.specs.Lists.{groupsOf, Room}
+
+-- At most 256 columns in three lists, a group of taxa below n, and a workspace whose first n x m numbers are 0.
+pub record Ready (ws os zs : List ℕ) (S n : ℕ) (space : List ℤ) : Type 0 where
+  pub parallel : Parallel ws os zs
+  pub columns : length ws ≤ 256
+  pub taxa : n ≤ 64
+  pub group : S < 2 ^ n
+  pub places : n * length ws ≤ length space
+  pub clear : cleared (n * length ws) space ≡ space
+
+-- A walk was made: the columns are those that it leaves, its groups stand after those before, and the workspace is as it was.
+pub record Grown (ws os zs : List ℕ) (before after : List ℤ) (walk : Walk) (old new : List Group) (at end : ℕ) : Type 0 where
+  pub columns : colsOf ws os zs ≡ walk .columns
+  pub parallel : Parallel ws os zs
+  pub groups : new ≡ old ++ walk .groups
+  pub many : end ≡ at + length (walk .groups)
+  pub workspace : after ≡ before
+
+-- Sets of taxa below n, each of fewer than bound.
+pub record AllSmall (Ps : List ℕ) (n bound : ℕ) : Type 0 where
+  pub short : (i : ℕ) → i < length Ps → getD Ps i 0 < 2 ^ n
+  pub small : (i : ℕ) → i < length Ps → count 64 (getD Ps i 0) < bound
+
+-- What there is to write: m columns before and after, and k groups as walked, whose list in file order fits 63 places and whose total fits 4 bytes.
+pub record Walked (os zs os′ zs′ : List ℕ) (n m : ℕ) (walked paid : List ℕ) (k : ℕ) : Type 0 where
+  pub columns : m ≤ 256
+  pub ones : m ≤ length os
+  pub zeros : m ≤ length zs
+  pub ones-after : m ≤ length os′
+  pub zeros-after : m ≤ length zs′
+  pub listed : Room k walked paid
+  pub few : length (ordered 64 n (groupsOf walked paid k)) ≤ 63
+  pub small : total (ordered 64 n (groupsOf walked paid k)) < 2 ^ 32
+
+-- A content was handed to the writing of answers, with room for 256 flips.
+abbrev pub writtenAs : Content → Written → Built
+writtenAs c (written.Length size) = Taken size (c .total)
+writtenAs c (written.Refused why) = Refused why
+
+pub record Answers (c : Content) (out : List ℕ) (r : Built) (out′ : List ℕ) : Type 0 where
+  pub answers : r ≡ writtenAs c (writing c 256 (length out))
+  pub output : out′ ≡ put (writing c 256 (length out)) (fileOf c) out
