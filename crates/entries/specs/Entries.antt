@@ -1,0 +1,61 @@
+-- The flip list as "a lent list of entries, each a column with its raised and lowered taxa" (document 01, "Operations and refusals").
+use mathlib.Core.Path.{_≡_}
+use mathlib.Core.List.{List, [], _∷_, _++_, map}
+use Prim.Native.Nat.{ℕ, _<_, _≤_, _^_}
+use lib.ListN.{length, getD, take, drop}
+use Rattle.answer.specs.Content.{Content, contentIn}
+use Rattle.answer.specs.Reading.{reading, returned, readNumbers}
+use Rattle.answer.specs.declared.Reading.{Reading}
+use Rattle.answer.specs.declared.Verdict.{Verdict}
+use Rattle.answer.specs.declared.Verdict.the-variants.{Taken, Refused}
+use Rattle.entries.specs.declared.Flip.{Flip}
+
+-- Three lists as one of entries, as long as the shortest.
+abbrev pub zipped : List ℕ → List ℕ → List ℕ → List Flip
+zipped [] us ds = []
+zipped (c ∷ cs) [] ds = []
+zipped (c ∷ cs) (u ∷ us) [] = []
+zipped (c ∷ cs) (u ∷ us) (d ∷ ds) = record { column = c; raised = u; lowered = d } ∷ zipped cs us ds
+
+-- The entries' columns, their raised and their lowered taxa.
+abbrev pub columnsOf : List Flip → List ℕ
+columnsOf ys = map (λ (f : Flip). f .column) ys
+
+abbrev pub raisedOf : List Flip → List ℕ
+raisedOf ys = map (λ (f : Flip). f .raised) ys
+
+abbrev pub loweredOf : List Flip → List ℕ
+loweredOf ys = map (λ (f : Flip). f .lowered) ys
+
+-- The entries of an answer.
+abbrev pub entriesOf : Content → List Flip
+entriesOf c = zipped (c .columns) (c .raised) (c .lowered)
+
+-- A list with its first k elements replaced by those of another.
+abbrev pub over : {X : Type 0} → ℕ → List X → List X → List X
+over k xs zs = take k xs ++ drop k zs
+
+-- Each of the first k columns fits its file width.
+abbrev pub narrow : List ℕ → ℕ → Type 0
+narrow columns k = (i : ℕ) → i < k → getD columns i 0 < 2 ^ 16
+
+-- What is stored: all of it if the file is taken, nothing on a refusal.
+abbrev pub stored : {X : Type 0} → Verdict → List X → List X
+stored Taken new = new
+stored (Refused why) new = []
+
+-- What reading promises of its answer and of the lent list: "list entries past the last stay as they were", on a refusal all.
+pub record ReadsEntries (file : List ℕ) (list : List Flip) (r : Reading) (list′ : List Flip) : Type 0 where
+  pub answers : r ≡ reading file (length list)
+  pub numbers : returned r ≡ readNumbers file (length list)
+  pub list-after : list′ ≡ stored (r .verdict) (entriesOf (contentIn file)) ++ drop (length (stored (r .verdict) (entriesOf (contentIn file)))) list
+
+-- What reading for a list of so many entries leaves in three parts of 256: the flips that it counts stand first, and have room.
+pub record InParts (file : List ℕ) (entries : ℕ) (r : Reading) (columns raised lowered : List ℕ) : Type 0 where
+  pub answers : r ≡ reading file entries
+  pub has-room : r .answer .flips ≤ entries
+  pub few : r .answer .flips ≤ 256
+  pub columns-first : take (r .answer .flips) columns ≡ stored (r .verdict) (contentIn file .columns)
+  pub raised-first : take (r .answer .flips) raised ≡ stored (r .verdict) (contentIn file .raised)
+  pub lowered-first : take (r .answer .flips) lowered ≡ stored (r .verdict) (contentIn file .lowered)
+  pub columns-narrow : narrow columns (r .answer .flips)

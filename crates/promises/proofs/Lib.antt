@@ -1,0 +1,7 @@
+-- The theorems, by demand.
+pub mod Bytes
+pub mod Refusals
+pub mod Answers
+pub mod OneAnswer
+pub mod Tree
+pub mod Specimens

@@ -1,0 +1,3 @@
+-- What people hold, and the specimens.
+pub mod Held
+pub mod Specimens

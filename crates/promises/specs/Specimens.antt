@@ -1,0 +1,118 @@
+-- Document 01's specimens marked P, and its trap of the walking order, on bytes: a table of what is asked and what is told.
+use mathlib.Core.List.{List, [], _∷_, _++_}
+use Prim.Native.Nat.{ℕ, _*_}
+use lib.ListN.{take, replicate}
+use Rattle.matrix.specs.Check as matrix
+use Rattle.split.specs.Columns.{matrixIn}
+use Rattle.tree.specs.Build as tree
+use Rattle.promises.specs.Held.{many}
+
+-- ---- bytes
+
+-- A number below 256 in 2, 4 and 8 bytes, "all little-endian".
+abbrev two : ℕ → List ℕ
+two x = x ∷ 0 ∷ []
+
+abbrev four : ℕ → List ℕ
+four x = x ∷ 0 ∷ 0 ∷ 0 ∷ []
+
+abbrev eight : ℕ → List ℕ
+eight x = x ∷ 0 ∷ 0 ∷ 0 ∷ 0 ∷ 0 ∷ 0 ∷ 0 ∷ []
+
+-- "Every record is length (2 bytes, payload only), kind (2 bytes), payload."
+abbrev head : ℕ → ℕ → List ℕ
+head n m = two 4 ++ two 1 ++ two n ++ two m
+
+abbrev column : ℕ → ℕ → ℕ → List ℕ
+column weight ones zeros = two 18 ++ two 2 ++ two weight ++ eight ones ++ eight zeros
+
+abbrev end : List ℕ
+end = two 0 ++ two 3
+
+abbrev answerHead : ℕ → ℕ → ℕ → ℕ → ℕ → List ℕ
+answerHead n m groups flips total = two 12 ++ two 17 ++ two n ++ two m ++ two groups ++ two flips ++ four total
+
+abbrev group : ℕ → ℕ → List ℕ
+group taxa cost = two 12 ++ two 18 ++ eight taxa ++ four cost
+
+abbrev flips : ℕ → ℕ → ℕ → List ℕ
+flips column raised lowered = two 18 ++ two 19 ++ two column ++ eight raised ++ eight lowered
+
+abbrev answerEnd : List ℕ
+answerEnd = two 0 ++ two 20
+
+-- ---- questions and answers
+
+-- What is asked of the library, each with its bytes. (Scores, of specimens 1 and 7, come with the crate that scores.)
+pub data Asked : Type 0 where
+  check : List ℕ → Asked
+  build : List ℕ → Asked
+
+-- What it tells: number and place of the refusal, the two numbers that a success returns, and the bytes written.
+pub record Told : Type 0 where
+  pub number : ℕ
+  pub place : ℕ
+  pub first : ℕ
+  pub second : ℕ
+  pub bytes : List ℕ
+
+-- The build is lent a workspace and an output just as long as document 01 asks.
+unfoldable pub tells : Asked → Told
+tells (check file) = let r = matrix.checkNumbers file in record { number = r .number; place = r .place; first = r .n; second = r .m; bytes = [] }
+tells (build file) =
+    let M = matrixIn file in
+    let room = tree.roomFor (M .taxa) (many M) in
+    let r = tree.built file (M .taxa * many M) room in
+    let it = tree.returned r in
+    record { number = it .number; place = it .place; first = it .size; second = it .sum; bytes = take (it .size) (tree.outputAfter file r (replicate room 0)) }
+
+-- ---- the table
+
+pub record Row : Type 0 where
+  pub asked : Asked
+  pub told : Told
+
+abbrev refuses : List ℕ → ℕ → ℕ → Row
+refuses file number place = record { asked = check file; told = record { number = number; place = place; first = 0; second = 0; bytes = [] } }
+
+abbrev takes : List ℕ → ℕ → ℕ → Row
+takes file n m = record { asked = check file; told = record { number = 0; place = 0; first = n; second = m; bytes = [] } }
+
+abbrev answers : List ℕ → ℕ → ℕ → List ℕ → Row
+answers file size total bytes = record { asked = build file; told = record { number = 0; place = 0; first = size; second = total; bytes = bytes } }
+
+-- Specimen 1's matrix, "78 bytes in, an answer file of 112 bytes".
+abbrev pub first : List ℕ
+first = head 4 3 ++ column 1 0b0011 0b1100 ++ column 1 0b0110 0b1001 ++ column 2 0b1100 0b0011 ++ end
+
+abbrev pub table : List Row
+table =
+    -- 1
+    answers first 112 2
+    (answerHead 4 3 3 2 2 ++ group 0xf 1 ++ group 0xe 1 ++ group 0xc 0 ++ flips 0 0 0b0001 ++ flips 1 0b1000 0 ++ answerEnd)
+    -- 2
+    ∷ answers (head 3 2 ++ column 1 0b011 0b100 ++ column 1 0b110 0b001 ++ end) 74 1
+    (answerHead 3 2 2 1 1 ++ group 7 1 ++ group 6 0 ++ flips 0 0b100 0 ++ answerEnd)
+    -- 3
+    ∷ answers (head 3 2 ++ column 2 0b011 0b100 ++ column 1 0b110 0b001 ++ end) 74 1
+    (answerHead 3 2 2 1 1 ++ group 7 1 ++ group 3 0 ++ flips 1 0b001 0 ++ answerEnd)
+    -- 4
+    ∷ answers (head 4 2 ++ column 1 0b0111 0b1000 ++ column 3 0b1100 0b0011 ++ end) 74 1
+    (answerHead 4 2 2 1 1 ++ group 0xf 1 ++ group 0xc 0 ++ flips 0 0b1000 0 ++ answerEnd)
+    -- 5
+    ∷ answers (head 3 1 ++ column 1 0b111 0 ++ end) 36 0 (answerHead 3 1 1 0 0 ++ group 7 0 ++ answerEnd)
+    -- 6
+    ∷ answers (head 1 0 ++ end) 20 0 (answerHead 1 0 0 0 0 ++ answerEnd)
+    -- 7
+    ∷ answers (head 2 1 ++ column 5 0 0b11 ++ end) 36 0 (answerHead 2 1 1 0 0 ++ group 3 0 ++ answerEnd)
+    -- "{0,5,6}, {5,6}, {1,2} is one [walking order], yet {1,2} precedes {5,6} here."
+    ∷ answers (head 7 3 ++ column 1 0x61 0x1e ++ column 1 0x60 0x1f ++ column 1 0x06 0x79 ++ end) 84 0
+    (answerHead 7 3 4 0 0 ++ group 0x7f 0 ++ group 0x61 0 ++ group 0x06 0 ++ group 0x60 0 ++ answerEnd)
+    -- 8
+    ∷ refuses [] 1 0
+    ∷ refuses (head 65 0 ++ end) 3 0
+    ∷ takes (head 64 0 ++ end) 64 0
+    -- 9
+    ∷ refuses (take 77 first) 1 74
+    ∷ refuses (first ++ (0 ∷ [])) 8 78
+    ∷ []

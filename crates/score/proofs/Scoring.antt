@@ -1,0 +1,99 @@
+-- The operation by its rows: refused by the matrix, by the answer, or because they differ (15); else the score (`taken-row`).
+use mathlib.Core.Path.{_≡_, refl, sym, ap, _∙_}
+use mathlib.Core.List.{List}
+use Prim.Native.Nat.{ℕ, zero, suc, _+_, _*_, _≤_, _<_}
+use native.Mathlib.Omega.{arith}
+use lib.ListN.{getD, length, replicate, length-replicate}
+use borrow.Author.Tests.{eq-eqb, ne-eqb}
+use Rattle.record.specs.Records.{refused}
+use Rattle.record.specs.declared.Cursor.{Cursor}
+use Rattle.record.specs.declared.Refusal.{Refusal}
+use Rattle.record.specs.declared.Passed.the-variants as passed
+use Rattle.record.proofs.Over.{length-over}
+use Rattle.matrix.specs.declared.Column.{Column}
+use Rattle.matrix.specs.declared.Checked.the-variants as checks
+use Rattle.matrix.specs.Matrix.{columnIn}
+use Rattle.matrix.specs.Check.{checked}
+use Rattle.answer.specs.declared.Answer.{Answer}
+use Rattle.answer.specs.Content.{contentIn, groupsIn, taxaIn, padded, answerOf}
+use Rattle.answer.specs.Reading.{fileTests}
+use Rattle.answer.proofs.Runs.{length-entries, at-front}
+use Rattle.answer.proofs.Outcomes.{Laid}
+use Rattle.score.specs.declared.Raises.{Raises}
+use Rattle.score.specs.declared.Lowers.{Lowers}
+use Rattle.score.specs.declared.Scored.{Scored}
+use Rattle.score.specs.declared.Scored.the-variants.{Taken, Refused}
+use Rattle.score.specs.Score.{leaf, nearest, nearestIn, nodeFor, raisesOf, lowersOf}
+use Rattle.score.specs.Operation.{nodeIn, agreed, scored, Returned, returned, scoreNumbers, Readable}
+
+-- ---- the groups in a value's places
+
+-- Clusters that are the same below k have the same node that counts.
+nearest-same : (c : Column) (f g : ℕ → ℕ) (k best : ℕ) → ((i : ℕ) → i < k → f i ≡ g i) → nearestIn c f k best ≡ nearestIn c g k best
+unfolding nearestIn
+nearest-same c f g zero best e = refl
+nearest-same c f g (suc k) best e = rw (nearest-same c f g k best (λ i l. e i (omega arith)), e k (omega arith))
+
+length-taxa : (file : List ℕ) (k : ℕ) → length (taxaIn file k) ≡ k
+unfolding taxaIn
+length-taxa file k = length-entries _ k
+
+padded-node : (file : List ℕ) (n k : ℕ) → nodeFor n (padded (taxaIn file k)) k ≡ nodeFor n (taxaIn file k) k
+unfolding nodeFor
+padded-node file n k i c =
+    nearest-same c (λ j. getD (padded (taxaIn file k)) j 0) (λ j. getD (taxaIn file k) j 0) k (nearestIn c leaf n (leaf 0)) (λ j l.
+    at-front (taxaIn file k) (replicate 63 0) j (omega (arith, length-taxa file k))) i
+
+-- The places of the value hold all groups.
+pub groups-placed : (answer : List ℕ) {a : Answer} → a ≡ answerOf (contentIn answer) → groupsIn answer ≤ 63 → a .groups ≤ length (a .taxa)
+groups-placed answer e l =
+    let k = length-taxa answer (groupsIn answer) in
+    let zeros : List ℕ = replicate 63 0 in
+    let r : length zeros ≡ 63 = refl in
+    rw e (omega (arith, length-over (taxaIn answer (groupsIn answer)) 0 zeros (omega (arith, k, r)), r))
+
+same-node : (answer : List ℕ) (n : ℕ) {a : Answer} → a ≡ answerOf (contentIn answer) → a .n ≡ n → nodeFor n (a .taxa) (a .groups) ≡ nodeIn answer
+same-node answer n value e = rw (← e, value) (padded-node answer (contentIn answer .n) (groupsIn answer))
+
+-- ---- two files that were read
+
+module _ (matrix answer : List ℕ) (n m : ℕ) {a : Answer} (value : a ≡ answerOf (contentIn answer)) where
+  pub other-taxa : (a .n ≡ n → ⊥) → Refused (refused 15 0) ≡ agreed matrix answer n m
+  unfolding agreed
+  other-taxa h = rw (ne-eqb (contentIn answer .n) n (rw value at h))
+
+  pub other-columns : a .n ≡ n → (a .m ≡ m → ⊥) → Refused (refused 15 0) ≡ agreed matrix answer n m
+  unfolding agreed
+  other-columns e h = rw (eq-eqb (contentIn answer .n) n (rw value at e), ne-eqb (contentIn answer .m) m (rw value at h))
+
+  pub taken-row : {up : Raises} {down : Lowers} → a .n ≡ n → a .m ≡ m
+      → up .0 ≡ raisesOf (columnIn matrix) (nodeFor n (a .taxa) (a .groups)) m → down .0 ≡ lowersOf (columnIn matrix) (nodeFor n (a .taxa) (a .groups)) m
+      → Taken up down ≡ agreed matrix answer n m
+  unfolding agreed
+  taken-row e e′ up-is down-is =
+      let up′ = up-is ∙ ap (λ (node : Column → ℕ). raisesOf (columnIn matrix) node m) (same-node answer n value e) in
+      let down′ = down-is ∙ ap (λ (node : Column → ℕ). lowersOf (columnIn matrix) node m) (same-node answer n value e) in
+      rw (eq-eqb (contentIn answer .n) n (rw value at e), eq-eqb (contentIn answer .m) m (rw value at e′)) (λ i. Taken (record { 0 = up′ i }) (record { 0 = down′ i }))
+
+-- ---- the operation
+
+-- What the operation answers, and document 01's numbers for it.
+abbrev pub Outcome : List ℕ → List ℕ → Scored → Type 0
+Outcome matrix answer r = (r ≡ scored matrix answer) × (returned r ≡ scoreNumbers matrix answer)
+
+module _ (matrix answer : List ℕ) where
+  numbered : {r : Scored} → r ≡ scored matrix answer → Outcome matrix answer r
+  numbered e = (e, ap returned e)
+
+  pub matrix-refused : {why : Refusal} → checks.Refused why ≡ checked matrix → Outcome matrix answer (Refused why)
+  unfolding scored
+  matrix-refused e = numbered (rw (← e))
+
+  module _ {n m : ℕ} (taken : checks.Taken n m ≡ checked matrix) where
+    pub answer-refused : {why : Refusal} → passed.Refused why ≡ fileTests answer → Outcome matrix answer (Refused why)
+    unfolding scored
+    answer-refused e = numbered (rw (← taken, ← e))
+
+    pub both-read : {here : Cursor} {r : Scored} → passed.At here ≡ fileTests answer → r ≡ agreed matrix answer n m → Outcome matrix answer r
+    unfolding scored
+    both-read e s = numbered (rw (← taken, ← e) s)

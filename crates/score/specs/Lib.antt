@@ -1,0 +1,3 @@
+-- The score of a tree against a matrix.
+pub mod Score
+pub mod Operation

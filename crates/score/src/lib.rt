@@ -1,0 +1,190 @@
+// The score of an answer against a matrix: for each column the flips that bring it to the nearest node of the tree.
+// Promises: for any two byte strings, raises and lowers are those of specs/Score.antt, or the one refusal that document 01
+// assigns. Rests on taxa, record, matrix and answer.
+use answer::reader::answer_in;
+use answer::reader::pass_file;
+use matrix::Checked;
+use matrix::Column;
+use record::Passed;
+use record::Refusal;
+ghost use mathlib.Core.Path.{_≡_};
+ghost use Prim.Native.Nat.{_*_, _≤_, _+_};
+ghost use lib.ListN.{length, getD};
+ghost use Rattle.matrix.specs.Matrix.{columnIn};
+ghost use Rattle.score.specs.Score as score;
+ghost use Rattle.score.specs.Operation as operation;
+ghost use Rattle.score.specs.Operation.{Readable};
+
+// Flips from 0 to 1, and flips from 1 to 0: counted apart, and summed by nothing but `distance`.
+pub struct Raises(pub u32);
+
+pub struct Lowers(pub u32);
+
+// "The taxa in both Z and X".
+fn raises_at(it: Column, node: u64) -> Raises
+    ensures { λ r. ⌜ (r .0 ≡ score.raisesAt it node) × (r .0 ≤ 64) ⌝ }
+{
+    Raises(taxa::count_in(it.zeros, node))
+}
+
+// "The taxa of O outside X".
+fn lowers_at(it: Column, node: u64) -> Lowers
+    ensures { λ r. ⌜ (r .0 ≡ score.lowersAt it node) × (r .0 ≤ 64) ⌝ }
+{
+    Lowers(taxa::size(taxa::difference(it.ones, node)))
+}
+
+// The score of a column at one node.
+fn distance(it: Column, node: u64) -> u32
+    ensures { λ r. ⌜ r ≡ score.distance it node ⌝ }
+{
+    let raises = raises_at(it, node);
+    let lowers = lowers_at(it, node);
+    it.weight as u32 * (raises.0 + lowers.0)
+}
+
+// Whether a node counts before another: nearer, or as near with fewer raises.
+fn nearer(it: Column, node: u64, other: u64) -> bool
+    ensures { λ r. ⌜ r ≡ score.nearer it node other ⌝ }
+{
+    let here = distance(it, node);
+    let there = distance(it, other);
+    if here < there {
+        return true;
+    }
+    if here != there {
+        return false;
+    }
+    raises_at(it, node).0 < raises_at(it, other).0
+}
+
+fn nearest_of(it: Column, node: u64, best: u64) -> u64
+    ensures { λ r. ⌜ r ≡ score.nearest it node best ⌝ }
+{
+    if nearer(it, node, best) { node } else { best }
+}
+
+// The leaf that counts, of the first n taxa.
+fn nearest_leaf(it: Column, n: u32) -> u64
+    requires { ⌜ n ≤ 64 ⌝ }
+    ensures { λ r. ⌜ r ≡ score.nearestIn it score.leaf n (score.leaf 0) ⌝ }
+{
+    let mut best: u64 = 1;
+    for i in 0u32..n {
+        best = nearest_of(it, taxa::single(i), best);
+    }
+    best
+}
+
+// The node that counts: of the leaf that does, and the first k groups.
+fn nearest_node(it: Column, groups: &[u64], k: usize, leaf: u64) -> u64
+    requires { ⌜ k ≤ length (now groups) ⌝ }
+    ensures { λ r. ⌜ r ≡ score.nearestIn it (λ i. getD (now (groups .entry)) i 0) k leaf ⌝ }
+{
+    let mut best = leaf;
+    for i in 0usize..k {
+        best = nearest_of(it, groups[i], best);
+    }
+    best
+}
+
+// The node of the tree that counts for a column.
+fn node_for(it: Column, n: u32, groups: &[u64], k: usize) -> u64
+    requires { ⌜ (n ≤ 64) × (k ≤ length (now groups)) ⌝ }
+    ensures { λ r. ⌜ r ≡ score.nodeFor n (now (groups .entry)) k it ⌝ }
+{
+    nearest_node(it, groups, k, nearest_leaf(it, n))
+}
+
+// Raises and lowers, each times its weight.
+pub struct Sums {
+    pub raises: Raises,
+    pub lowers: Lowers,
+}
+
+// A count of flips times the column's weight: at most 64 times 65,535.
+fn weighed(weight: u16, flips: u32) -> u32
+    requires { ⌜ flips ≤ 64 ⌝ }
+    ensures { λ r. ⌜ (r ≡ weight * flips) × (r ≤ 4194240) ⌝ }
+{
+    weight as u32 * flips
+}
+
+// A column's flips to its node added to those before it.
+fn with_column(sum: Sums, it: Column, node: u64) -> Sums
+    requires { ⌜ (sum .raises .0 ≤ 255 * 4194240) × (sum .lowers .0 ≤ 255 * 4194240) ⌝ }
+    ensures raised { λ r. ⌜ (r .raises .0 ≡ sum .raises .0 + it .weight * score.raisesAt it node) × (r .raises .0 ≤ sum .raises .0 + 4194240) ⌝ }
+    ensures lowered { λ r. ⌜ (r .lowers .0 ≡ sum .lowers .0 + it .weight * score.lowersAt it node) × (r .lowers .0 ≤ sum .lowers .0 + 4194240) ⌝ }
+{
+    let raises = sum.raises;
+    let lowers = sum.lowers;
+    Sums {
+        raises: Raises(raises.0 + weighed(it.weight, raises_at(it, node).0)),
+        lowers: Lowers(lowers.0 + weighed(it.weight, lowers_at(it, node).0)),
+    }
+}
+
+// The score of the first m columns of a file that the check takes.
+fn score_columns(file: &[u8], m: usize, n: u32, groups: &[u64], k: usize) -> Sums
+    requires { ⌜ (m ≤ 256) × (8 + 22 * m ≤ length (now file)) × (n ≤ 64) × (k ≤ length (now groups)) ⌝ }
+    ensures raised { λ r. ⌜ (r .raises .0 ≡ score.raisesOf (columnIn (now (file .entry))) (score.nodeFor n (now (groups .entry)) k) m) × (r .raises .0 ≤ m * 4194240) ⌝ }
+    ensures lowered { λ r. ⌜ (r .lowers .0 ≡ score.lowersOf (columnIn (now (file .entry))) (score.nodeFor n (now (groups .entry)) k) m) × (r .lowers .0 ≤ m * 4194240) ⌝ }
+{
+    let mut sum = Sums {
+        raises: Raises(0),
+        lowers: Lowers(0),
+    };
+    for c in 0usize..m {
+        let it = matrix::column_in(file, c);
+        sum = with_column(sum, it, node_for(it, n, groups, k));
+    }
+    sum
+}
+
+// What the score answers: raises and lowers, each times its weight, or the refusal.
+pub enum Scored {
+    Taken(Raises, Lowers),
+    Refused(Refusal),
+}
+
+// Two files that were read: their n and m have to agree.
+fn score_read(matrix: &[u8], answer: &[u8], n: u16, m: u16) -> Scored
+    requires { ⌜ Readable (now matrix) (now answer) n m ⌝ }
+    ensures { λ r. ⌜ r ≡ operation.agreed (now (matrix .entry)) (now (answer .entry)) n m ⌝ }
+{
+    let value = answer_in(answer);
+    if value.n != n {
+        return Scored::Refused(Refusal {
+            number: 15,
+            place: 0,
+        });
+    }
+    if value.m != m {
+        return Scored::Refused(Refusal {
+            number: 15,
+            place: 0,
+        });
+    }
+    let groups = value.taxa;
+    let sum = score_columns(matrix, m as usize, n as u32, &groups, value.groups as usize);
+    let raises = sum.raises;
+    let lowers = sum.lowers;
+    Scored::Taken(raises, lowers)
+}
+
+// The operation "score".
+pub fn score(matrix: &[u8], answer: &[u8]) -> Scored
+    ensures { λ r. ⌜ (r ≡ operation.scored (now (matrix .entry)) (now (answer .entry))) × (operation.returned r ≡ operation.scoreNumbers (now (matrix .entry)) (now (answer .entry))) ⌝ }
+{
+    let checked = matrix::check(matrix);
+    match checked {
+        Checked::Refused(why) => Scored::Refused(why),
+        Checked::Taken(n, m) => {
+            let passed = pass_file(answer);
+            let Passed::At(_) = passed else {
+                return Scored::Refused(passed.refusal());
+            };
+            score_read(matrix, answer, n, m)
+        }
+    }
+}
