@@ -5,6 +5,7 @@ use lib.ListN.{take, replicate}
 use Rattle.matrix.specs.Check as matrix
 use Rattle.split.specs.Columns.{matrixIn}
 use Rattle.tree.specs.Build as tree
+use Rattle.score.specs.Operation as scoring
 use Rattle.promises.specs.Held.{many}
 
 -- ---- bytes
@@ -43,10 +44,11 @@ answerEnd = two 0 ++ two 20
 
 -- ---- questions and answers
 
--- What is asked of the library, each with its bytes. (Scores, of specimens 1 and 7, come with the crate that scores.)
+-- What is asked of the library, each with its bytes.
 pub data Asked : Type 0 where
   check : List ℕ → Asked
   build : List ℕ → Asked
+  score : List ℕ → List ℕ → Asked
 
 -- What it tells: number and place of the refusal, the two numbers that a success returns, and the bytes written.
 pub record Told : Type 0 where
@@ -65,6 +67,7 @@ tells (build file) =
     let r = tree.built file (M .taxa * many M) room in
     let it = tree.returned r in
     record { number = it .number; place = it .place; first = it .size; second = it .sum; bytes = take (it .size) (tree.outputAfter file r (replicate room 0)) }
+tells (score file answer) = let r = scoring.scoreNumbers file answer in record { number = r .number; place = r .place; first = r .raises; second = r .lowers; bytes = [] }
 
 -- ---- the table
 
@@ -82,14 +85,27 @@ abbrev answers : List ℕ → ℕ → ℕ → List ℕ → Row
 answers file size total bytes = record { asked = build file; told = record { number = 0; place = 0; first = size; second = total; bytes = bytes } }
 
 -- Specimen 1's matrix, "78 bytes in, an answer file of 112 bytes".
+abbrev scores : List ℕ → List ℕ → ℕ → ℕ → Row
+scores file answer raises lowers = record { asked = score file answer; told = record { number = 0; place = 0; first = raises; second = lowers; bytes = [] } }
+
 abbrev pub first : List ℕ
 first = head 4 3 ++ column 1 0b0011 0b1100 ++ column 1 0b0110 0b1001 ++ column 2 0b1100 0b0011 ++ end
+
+abbrev firstAnswer : List ℕ
+firstAnswer = answerHead 4 3 3 2 2 ++ group 0xf 1 ++ group 0xe 1 ++ group 0xc 0 ++ flips 0 0 0b0001 ++ flips 1 0b1000 0 ++ answerEnd
+
+-- Specimen 7, and the answer to it.
+abbrev seventh : List ℕ
+seventh = head 2 1 ++ column 5 0 0b11 ++ end
+
+abbrev seventhAnswer : List ℕ
+seventhAnswer = answerHead 2 1 1 0 0 ++ group 3 0 ++ answerEnd
 
 abbrev pub table : List Row
 table =
     -- 1
-    answers first 112 2
-    (answerHead 4 3 3 2 2 ++ group 0xf 1 ++ group 0xe 1 ++ group 0xc 0 ++ flips 0 0 0b0001 ++ flips 1 0b1000 0 ++ answerEnd)
+    answers first 112 2 firstAnswer
+    ∷ scores first firstAnswer 0 2
     -- 2
     ∷ answers (head 3 2 ++ column 1 0b011 0b100 ++ column 1 0b110 0b001 ++ end) 74 1
     (answerHead 3 2 2 1 1 ++ group 7 1 ++ group 6 0 ++ flips 0 0b100 0 ++ answerEnd)
@@ -104,7 +120,8 @@ table =
     -- 6
     ∷ answers (head 1 0 ++ end) 20 0 (answerHead 1 0 0 0 0 ++ answerEnd)
     -- 7
-    ∷ answers (head 2 1 ++ column 5 0 0b11 ++ end) 36 0 (answerHead 2 1 1 0 0 ++ group 3 0 ++ answerEnd)
+    ∷ answers seventh 36 0 seventhAnswer
+    ∷ scores seventh seventhAnswer 5 0
     -- "{0,5,6}, {5,6}, {1,2} is one [walking order], yet {1,2} precedes {5,6} here."
     ∷ answers (head 7 3 ++ column 1 0x61 0x1e ++ column 1 0x60 0x1f ++ column 1 0x06 0x79 ++ end) 84 0
     (answerHead 7 3 4 0 0 ++ group 0x7f 0 ++ group 0x61 0 ++ group 0x06 0 ++ group 0x60 0 ++ answerEnd)
