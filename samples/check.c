@@ -1,54 +1,77 @@
-/* Checks a matrix file, as the workbench does: prints `taken n N m M` or
- * `refused N at P`. Ends with 0 where the file is taken, 1 where it is
- * refused, 2 where it cannot be read. */
+/* Checks a matrix file and, where an answer file is named too, scores its tree against the matrix, as
+ * the workbench does. It prints a line for each: `taken n N m M`, then `raises R lowers L score S`; or
+ * `refused N at P`, and then no more. Ends with 0, with 1 where a file is refused, 2 where one cannot
+ * be read. */
 #include "flipcut.h"
 
 #include <inttypes.h>
 #include <stdio.h>
 #include <stdlib.h>
 
-/* The whole file and its length; null where it cannot be read. */
-static uint8_t *read_file(const char *name, size_t *len) {
+struct file {
+    uint8_t *bytes; /* null where the file cannot be read */
+    size_t len;
+};
+
+static struct file read_file(const char *name) {
+    struct file file = {NULL, 0};
     FILE *f = fopen(name, "rb");
-    if (f == NULL) return NULL;
+    if (f == NULL) return file;
     size_t room = 1024;
-    uint8_t *bytes = malloc(room);
-    *len = 0;
-    while (bytes != NULL) {
-        size_t got = fread(bytes + *len, 1, room - *len, f);
-        *len += got;
+    file.bytes = malloc(room);
+    while (file.bytes != NULL) {
+        size_t got = fread(file.bytes + file.len, 1, room - file.len, f);
+        file.len += got;
         if (got == 0) break;
-        if (*len == room) {
-            uint8_t *larger = realloc(bytes, room *= 2);
-            if (larger == NULL) free(bytes);
-            bytes = larger;
+        if (file.len == room) {
+            uint8_t *larger = realloc(file.bytes, room *= 2);
+            if (larger == NULL) free(file.bytes);
+            file.bytes = larger;
         }
     }
-    if (bytes != NULL && ferror(f)) {
-        free(bytes);
-        bytes = NULL;
+    if (file.bytes != NULL && ferror(f)) {
+        free(file.bytes);
+        file.bytes = NULL;
     }
     fclose(f);
-    return bytes;
+    return file;
+}
+
+/* Says so where a call refused. */
+static bool refused(uint64_t packed) {
+    if (!flipcut_refused(packed)) return false;
+    printf("refused %u at %" PRIu64 "\n", flipcut_number(packed), flipcut_place(packed));
+    return true;
+}
+
+static int check_and_score(struct file matrix, struct file answer) {
+    uint64_t checked = flipcut_check(matrix.bytes, matrix.len);
+    if (refused(checked)) return 1;
+    printf("taken n %u m %u\n", flipcut_taxa(checked), flipcut_columns(checked));
+    if (answer.bytes == NULL) return 0;
+    uint64_t scored = flipcut_score(matrix.bytes, matrix.len, answer.bytes, answer.len);
+    if (refused(scored)) return 1;
+    uint32_t raises = flipcut_raises(scored), lowers = flipcut_lowers(scored);
+    printf("raises %" PRIu32 " lowers %" PRIu32 " score %" PRIu32 "\n", raises, lowers, raises + lowers);
+    return 0;
 }
 
 int main(int argc, char **argv) {
-    if (argc != 2) {
-        fprintf(stderr, "usage: check MATRIX-FILE\n");
+    if (argc != 2 && argc != 3) {
+        fprintf(stderr, "usage: check MATRIX-FILE [ANSWER-FILE]\n");
         return 2;
     }
-    size_t len = 0;
-    uint8_t *bytes = read_file(argv[1], &len);
-    if (bytes == NULL) {
-        perror(argv[1]);
-        return 2;
+    struct file files[2] = {{NULL, 0}, {NULL, 0}};
+    int status = 0;
+    for (int k = 0; k + 1 < argc; ++k) {
+        files[k] = read_file(argv[k + 1]);
+        if (files[k].bytes == NULL) {
+            perror(argv[k + 1]);
+            status = 2;
+        }
     }
-    uint64_t packed = flipcut_check(bytes, len);
-    free(bytes);
-    if (flipcut_refused(packed)) {
-        printf("refused %u at %" PRIu64 "\n", flipcut_number(packed), flipcut_place(packed));
-        return 1;
-    }
-    printf("taken n %u m %u\n", flipcut_taxa(packed), flipcut_columns(packed));
-    return 0;
+    if (status == 0) status = check_and_score(files[0], files[1]);
+    free(files[0].bytes);
+    free(files[1].bytes);
+    return status;
 }

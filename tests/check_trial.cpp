@@ -1,26 +1,23 @@
 // Compares flipcut_check, called as C calls it, with the independent check.
 //   check_trial FOLDER [COUNT]   COUNT random cases of each kind; FOLDER takes what differs
-#include <cstdio>
-#include <cstdlib>
 #include <string>
 
 #include "flipcut.h"
 #include "gen/damage.h"
 #include "gen/matrices.h"
+#include "lent.h"
 #include "oracle/matrix.h"
 #include "specimens.h"
 #include "tally.h"
+#include "trial.h"
 
 namespace {
 
 using oracle::Bytes;
 using oracle::CheckOutcome;
 
-// As C calls it. Rattle takes no null pointer, and an empty vector may have one.
-std::uint64_t called(const Bytes& file) {
-    static const std::uint8_t nothing = 0;
-    return flipcut_check(file.empty() ? &nothing : file.data(), file.size());
-}
+// As C calls it.
+std::uint64_t called(const Bytes& file) { return flipcut_check(start_of(file), file.size()); }
 
 // Through the header's functions.
 CheckOutcome unpacked(std::uint64_t packed) {
@@ -93,17 +90,13 @@ void random_cases(Tally& tally, gen::Random& random, unsigned long count) {
 }  // namespace
 
 int main(int argc, char** argv) {
-    if (argc < 2) {
-        std::fprintf(stderr, "usage: check_trial FOLDER [COUNT]\n");
-        return 2;
-    }
-    const unsigned long count = argc > 2 ? std::strtoul(argv[2], nullptr, 10) : 5000;
-    Tally tally("check", argv[1]);
+    const TrialWords words = trial_words(argc, argv, 5000);
+    Tally tally("check", words.folder);
     gen::Random random(1);
     specimen_cases(tally);
     every_size(tally, random);
     every_prefix_and_byte(tally, random);
-    random_cases(tally, random, count);
+    random_cases(tally, random, words.count);
     tally.finish({0, 1, 2, 3, 4, 5, 6, 7, 8});
     return 0;
 }

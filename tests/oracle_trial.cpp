@@ -1,8 +1,6 @@
 // The independent program by itself: document 01's specimens, its two ways to divide against each
 // other, and what document 01 says of every answer.
 //   oracle_trial FOLDER [COUNT]
-#include <cstdio>
-#include <cstdlib>
 
 #include "gen/matrices.h"
 #include "oracle/build.h"
@@ -11,6 +9,7 @@
 #include "oracle/score.h"
 #include "specimens.h"
 #include "tally.h"
+#include "trial.h"
 
 namespace {
 
@@ -49,7 +48,7 @@ void division_case(Tally& tally, gen::Random& random) {
     const Matrix matrix = gen::random_matrix(random, n, m, gen::random_style(random));
     oracle::TaxonSet group = oracle::all_taxa(n);
     if (random.chance(50)) group &= random.bits();
-    if (oracle::size(group) < 2) return;
+    if (oracle::size(group) < 2) group = oracle::all_taxa(n);
     if (!(oracle::division_by_listing(matrix.columns, group) == oracle::division_by_network(matrix.columns, group)))
         tally.differ("listing and network, group " + std::to_string(group), oracle::matrix_file(matrix));
     tally.agreed(0);
@@ -96,17 +95,13 @@ void order_case(Tally& tally) {
 }  // namespace
 
 int main(int argc, char** argv) {
-    if (argc < 2) {
-        std::fprintf(stderr, "usage: oracle_trial FOLDER [COUNT]\n");
-        return 2;
-    }
-    const unsigned long count = argc > 2 ? std::strtoul(argv[2], nullptr, 10) : 3000;
-    Tally tally("oracle", argv[1]);
+    const TrialWords words = trial_words(argc, argv, 3000);
+    Tally tally("oracle", words.folder);
     gen::Random random(2);
     specimen_cases(tally);
     specimen_numbers(tally);
     order_case(tally);
-    for (unsigned long k = 0; k < count; ++k) {
+    for (unsigned long k = 0; k < words.count; ++k) {
         division_case(tally, random);
         build_case(tally, random);
     }

@@ -34,12 +34,34 @@ TaxonSet random_interval(Random& random, unsigned n) {
     return all_taxa(past < n ? past : n) & ~all_taxa(first);
 }
 
-// The 1s of a column before unknown entries are taken out.
-TaxonSet random_ones(Random& random, unsigned n, Shape shape, const std::vector<TaxonSet>& clades) {
-    if (shape == Shape::intervals) return random_interval(random, n);
-    if (shape == Shape::free || clades.empty()) return random_set(random, n, static_cast<unsigned>(random.between(10, 90)));
-    const TaxonSet clade = clades[random.below(clades.size())];
-    return shape == Shape::tree ? clade : clade ^ random_set(random, n, 6);
+// The sets that a matrix's columns are made from: clades for a tree, else blocks that part the taxa.
+std::vector<TaxonSet> random_pattern(Random& random, unsigned n, Shape shape) {
+    if (shape != Shape::blocks) return random_clades(random, n);
+    std::vector<TaxonSet> blocks(random.between(2, 4), 0);
+    for (unsigned i = 0; i < n; ++i) blocks[random.below(blocks.size())] |= oracle::only(i);
+    return blocks;
+}
+
+// Inside one block, 0 elsewhere; or across all blocks, with few 0s.
+Column block_entries(Random& random, unsigned n, TaxonSet block) {
+    const TaxonSet held = random_set(random, n, 85);
+    if (random.chance(85)) return Column{0, block & held, all_taxa(n) & ~block};
+    const TaxonSet few = random_set(random, n, 5) | oracle::only(static_cast<unsigned>(random.below(n)));
+    return Column{0, held & ~few, few};
+}
+
+// A column before unknown entries are taken out.
+Column random_entries(Random& random, unsigned n, Shape shape, const std::vector<TaxonSet>& pattern) {
+    const TaxonSet one = pattern.empty() ? 0 : pattern[random.below(pattern.size())];
+    TaxonSet ones = 0;
+    switch (shape) {
+        case Shape::free: ones = random_set(random, n, static_cast<unsigned>(random.between(10, 90))); break;
+        case Shape::tree: ones = one; break;
+        case Shape::noisy_tree: ones = one ^ random_set(random, n, 6); break;
+        case Shape::intervals: ones = random_interval(random, n); break;
+        case Shape::blocks: return block_entries(random, n, one);
+    }
+    return Column{0, ones, all_taxa(n) & ~ones};
 }
 
 }  // namespace
@@ -65,20 +87,21 @@ std::vector<TaxonSet> random_clades(Random& random, unsigned n) {
 Style random_style(Random& random) {
     const unsigned known[] = {100, 100, 80, 50, 20, 8};
     Style style;
-    style.shape = static_cast<Shape>(random.below(4));
+    style.shape = static_cast<Shape>(random.below(shape_count));
     style.weights = static_cast<Weights>(random.below(4));
-    style.known_percent = known[random.below(6)];
+    // Blocks hold together only where most entries are known.
+    style.known_percent = known[random.below(style.shape == Shape::blocks ? 3 : 6)];
     return style;
 }
 
 Matrix random_matrix(Random& random, unsigned n, unsigned m, const Style& style) {
     Matrix matrix;
     matrix.n = n;
-    const std::vector<TaxonSet> clades = random_clades(random, n);
+    const std::vector<TaxonSet> pattern = random_pattern(random, n, style.shape);
     for (unsigned c = 0; c < m; ++c) {
         const TaxonSet known = random_set(random, n, style.known_percent);
-        const TaxonSet ones = random_ones(random, n, style.shape, clades);
-        matrix.columns.push_back(Column{random_weight(random, style.weights), ones & known, known & ~ones});
+        const Column entries = random_entries(random, n, style.shape, pattern);
+        matrix.columns.push_back(Column{random_weight(random, style.weights), entries.ones & known, entries.zeros & known});
     }
     return matrix;
 }

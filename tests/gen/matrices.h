@@ -14,7 +14,10 @@ enum class Shape {
     tree,        // each column a clade of one tree: no conflict
     noisy_tree,  // the same with some entries turned over
     intervals,   // runs of neighbouring taxa
+    blocks,      // blocks of taxa held together from inside, with columns of few 0s across: the
+                 // least divisions part blocks, and the 0s decide what they cost
 };
+constexpr unsigned shape_count = 5;
 
 enum class Weights { one, light, heavy, any };
 

@@ -1,5 +1,5 @@
--- The packed number of a check: "bit 63 clear is success, set is refusal. Refusal: number in bits 0 to 7, place in bits 8 to 62.
--- Check: n in bits 0 to 15, m in bits 16 to 31." include/flipcut.h unpacks it by `unpacked`.
+-- The packed numbers: "bit 63 clear is success, set is refusal. Refusal: number in bits 0 to 7, place in bits 8 to 62. Check: n in bits 0 to
+-- 15, m in bits 16 to 31. Score: lowers in bits 0 to 30, raises in bits 31 to 61." include/flipcut.h unpacks them by `unpacked` and `unpackedScore`.
 use mathlib.Core.Bool.{cond}
 use Prim.Native.Nat.{ℕ, _+_, _*_, _/_, _%_, _^_}
 use lib.Dec.{eqb}
@@ -7,6 +7,9 @@ use Rattle.record.specs.declared.Refusal.{Refusal}
 use Rattle.matrix.specs.declared.Checked.{Checked}
 use Rattle.matrix.specs.declared.Checked.the-variants.{Taken, Refused}
 use Rattle.matrix.specs.Check.{Returned}
+use Rattle.score.specs.declared.Scored.{Scored}
+use Rattle.score.specs.declared.Scored.the-variants as scores
+use Rattle.score.specs.Operation as score
 
 abbrev pub packedRefusal : Refusal → ℕ
 packedRefusal why = 2 ^ 63 + (why .number + 256 * why .place)
@@ -14,6 +17,10 @@ packedRefusal why = 2 ^ 63 + (why .number + 256 * why .place)
 abbrev pub packed : Checked → ℕ
 packed (Taken n m) = n + 65536 * m
 packed (Refused why) = packedRefusal why
+
+abbrev pub packedScore : Scored → ℕ
+packedScore (scores.Taken raises lowers) = lowers .0 + 2 ^ 31 * raises .0
+packedScore (scores.Refused why) = packedRefusal why
 
 -- The bits of a packed number from `low` on, `width` of them.
 abbrev pub bits : ℕ → ℕ → ℕ → ℕ
@@ -25,3 +32,10 @@ unpacked v =
     cond (eqb (bits v 63 1) 1)
     (record { number = bits v 0 8; place = bits v 8 55; n = 0; m = 0 })
     (record { number = 0; place = 0; n = bits v 0 16; m = bits v 16 16 })
+
+-- The number, the place, raises and lowers of a packed score.
+unfoldable pub unpackedScore : ℕ → score.Returned
+unpackedScore v =
+    cond (eqb (bits v 63 1) 1)
+    (record { number = bits v 0 8; place = bits v 8 55; raises = 0; lowers = 0 })
+    (record { number = 0; place = 0; raises = bits v 31 31; lowers = bits v 0 31 })

@@ -2,14 +2,14 @@
 -- (`build-leaves`); it reads back (`answer-content`, `answer-reads-back`); its groups, flips and total are the method's (`groups-are`, `flips-are`, `total-is`).
 use mathlib.Core.Path.{_≡_, refl, sym, ap, _∙_}
 use mathlib.Core.Bool.{Bool, true, false, cond}
-use mathlib.Core.List.{List, [], _∷_, _++_, map}
-use Prim.Native.Nat.{ℕ, zero, suc, _*_, _≤_, _<_}
+use mathlib.Core.List.{List, map}
+use Prim.Native.Nat.{ℕ, zero, suc, _*_, _≤_}
 use native.Mathlib.Omega.{arith}
 use lib.Dec.{ltb}
 use lib.IntN.{ℤ}
-use lib.ListN.{length, getD, take, List·getD-map}
+use lib.ListN.{length, take, List·getD-map}
 use lib.Seq.{take-suc, take-length}
-use borrow.Author.Tests.{le-ltb, ltb-false}
+use borrow.Author.Tests.{le-ltb}
 use Rattle.record.specs.Bytes.{File}
 use Rattle.record.specs.Records.{refused}
 use Rattle.record.specs.declared.Refusal.{Refusal}
@@ -33,7 +33,7 @@ use Rattle.tree.specs.declared.Built.the-variants.{Taken, Refused}
 use Rattle.tree.specs.Lists as lists
 use Rattle.tree.specs.Build.{contentFor, roomFor, takenOf, answered, built, outputAfter, workspaceAfter}
 use Rattle.tree.proofs.Rules.{answer-legal}
-use Rattle.promises.specs.Held.{Builds, Leaves, groupsIn, flipsIn, totalIn}
+use Rattle.promises.specs.Held.{Leaves, groupsIn, flipsIn, totalIn}
 use Rattle.promises.proofs.Bytes.{file-bytes}
 
 -- ---- lists of groups and flips, apart and together again

@@ -1,10 +1,10 @@
 -- The file of any content is bytes (`file-bytes`).
 use mathlib.Core.List.{List, [], _∷_, _++_}
-use Prim.Native.Nat.{ℕ, zero, suc, _/_, _%_, _<_}
+use Prim.Native.Nat.{ℕ, zero, suc, _/_, _<_}
 use native.Mathlib.Omega.{arith}
 use lib.ListN.{getD}
 use Rattle.record.specs.Bytes.{bytesOf, File}
-use Rattle.record.specs.Records.{recordOf, recordBytes, openingOf}
+use Rattle.record.specs.Records.{recordBytes, openingOf}
 use Rattle.record.specs.declared.Record.{Record}
 use Rattle.answer.specs.Content.{Content, run, headBytes, groupBytes, flipsBytes, endBytes, fileOf}
 

@@ -1,8 +1,8 @@
 -- Demand 2: "one matrix, one answer. Answer files read back to what was written, and no two accepted files, matrix or answer, carry the same content."
 -- And two results that the contract of an operation allows coincide.
 use mathlib.Core.Path.{_≡_, refl, sym, ap, _∙_}
-use mathlib.Core.List.{List, map}
-use Prim.Native.Nat.{ℕ, _≤_}
+use mathlib.Core.List.{List}
+use Prim.Native.Nat.{ℕ}
 use native.Mathlib.Omega.{arith}
 use lib.IntN.{ℤ}
 use Rattle.record.specs.Bytes.{File}
@@ -10,6 +10,8 @@ use Rattle.record.specs.declared.Cursor.{Cursor}
 use Rattle.record.specs.declared.Passed.{Passed}
 use Rattle.record.specs.declared.Passed.the-variants.{At, Refused}
 use Rattle.record.proofs.Passing.{through}
+use Rattle.score.specs.Operation.{scored}
+use Rattle.score.specs.declared.Scored.{Scored}
 use Rattle.matrix.specs.declared.Checked.{Checked}
 use Rattle.matrix.specs.declared.Checked.the-variants as checks
 use Rattle.matrix.specs.Matrix.{matrixOf}
@@ -40,6 +42,9 @@ one-answer b b′ = leaves-file b ∙ sym (leaves-file b′)
 
 pub one-check : (file : List ℕ) {r r′ : Checked} → r ≡ checked file → r′ ≡ checked file → r ≡ r′
 one-check file e e′ = e ∙ sym e′
+
+pub one-score : (matrix answer : List ℕ) {r r′ : Scored} → r ≡ scored matrix answer → r′ ≡ scored matrix answer → r ≡ r′
+one-score matrix answer e e′ = e ∙ sym e′
 
 pub one-build : {file out : List ℕ} {ws : List ℤ} {r r′ : Built} {ws′ ws″ : List ℤ} {out′ out″ : List ℕ} → Builds file ws out r ws′ out′ → Builds file ws out r′ ws″ out″
     → (r ≡ r′) × (ws′ ≡ ws″) × (out′ ≡ out″)

@@ -1,6 +1,6 @@
 -- Demand 3, sentence by sentence, of the answer file that the build leaves of a matrix file: "For every accepted matrix, at every group of two or more taxa
 -- in the tree, with the columns as flipped up to there", and "over the whole tree".
-use mathlib.Core.Path.{_≡_, refl, sym, ap, _∙_, subst}
+use mathlib.Core.Path.{_≡_, sym, ap, _∙_, subst}
 use mathlib.Core.Logic.{_≢_}
 use mathlib.Core.List.{List, [], List·Memᴰ}
 use Prim.Native.Nat.{ℕ, _≤_, _<_}

@@ -1,21 +1,21 @@
 -- An answer file is refused at places in the largest answer file or right after it (`answer-by`); so what the score answers fits the bits that
 -- C gets: a refusal's number and place, or raises and lowers below 2^31 (`score-small`).
-use mathlib.Core.Path.{_≡_, refl, sym, ap, _∙_}
-use mathlib.Core.Bool.{Bool, true, false, _||_, _&&_, cond}
+use mathlib.Core.Path.{_≡_, refl}
+use mathlib.Core.Bool.{_||_, _&&_}
 use mathlib.Core.List.{List}
 use Prim.Native.Nat.{ℕ, zero, suc, _+_, _*_, _^_, _≤_, _<_}
 use native.Mathlib.Nat.{mul-le-mul-left}
 use native.Mathlib.Omega.{arith}
-use lib.Dec.{ltb, eqb, lit<, lit≤}
+use lib.Dec.{ltb, eqb, lit≤}
 use lib.ListN.{getD}
-use Rattle.taxa.specs.Sets.{_∩_, _∪_, _∖_, within, count, all}
+use Rattle.taxa.specs.Sets.{within, count, all}
 use Rattle.taxa.specs.Sum.{sum}
 use Rattle.taxa.proofs.Counts.{count-le}
-use Rattle.record.specs.Bytes.{File, numberAt}
+use Rattle.taxa.proofs.Sums.{sum-bound}
+use Rattle.record.specs.Bytes.{File}
 use Rattle.record.specs.Records as records
 use Rattle.record.specs.Records.{recordOf, payload, left, judged, onward, nothingAfter, step}
 use Rattle.record.specs.declared.Cursor.{Cursor}
-use Rattle.record.specs.declared.Refusal.{Refusal}
 use Rattle.record.specs.declared.Record.{Record}
 use Rattle.record.specs.declared.Step.{Step}
 use Rattle.record.specs.declared.Step.the-variants as step
@@ -23,7 +23,6 @@ use Rattle.record.specs.declared.Passed.{Passed}
 use Rattle.record.specs.declared.Passed.the-variants.{At, Refused}
 use Rattle.record.proofs.Numbers.{at-lt}
 use Rattle.record.proofs.Steps.{EndsBy, step-ends, either-way}
-use Rattle.matrix.specs.declared.Column.{Column}
 use Rattle.matrix.specs.declared.Checked.{Checked}
 use Rattle.matrix.specs.declared.Checked.the-variants as checks
 use Rattle.matrix.specs.Matrix.{columnIn}
@@ -31,8 +30,8 @@ use Rattle.matrix.specs.Check.{checked}
 use Rattle.matrix.proofs.Places.{refusal-small}
 use Rattle.matrix.proofs.Taken.{taken-legal, taken-columns}
 use Rattle.answer.specs.Content.{contentIn, groupsIn, flipsIn}
-use Rattle.answer.specs.Rules.{headFault, counted, groupFault, placed, compatibleAll, entryFault, kept, floorOf, sumOf, totalFault}
-use Rattle.answer.specs.Tests.{judge, inFile, walk, headTest, groupTest, entryTest, flipsTest, endTest, tests}
+use Rattle.answer.specs.Rules.{headFault, counted, groupFault, placed, compatibleAll, entryFault, kept, sumOf}
+use Rattle.answer.specs.Tests.{judge, inFile, walk, headTest, groupTest, entryTest, endTest, tests}
 use Rattle.answer.specs.Reading.{fileTests}
 use Rattle.answer.proofs.Files.{headOf, groupsOf, flipsOf, endOf, head-leads}
 use Rattle.score.specs.declared.Scored.{Scored}
@@ -147,9 +146,7 @@ module _ (file : List ℕ) where
 
 -- m sums of at most 64 flips of a weight below 2^16.
 weighed-small : (weight flips : ℕ → ℕ) → ((j : ℕ) → weight j < 65536) → ((j : ℕ) → flips j ≤ 64) → (m : ℕ) → sum m (λ j. weight j * flips j) ≤ m * 4194240
-unfolding sum
-weighed-small weight flips w f zero = lit≤ tt
-weighed-small weight flips w f (suc m) = omega (arith, weighed-small weight flips w f m, mul-le-mul-left (weight m) (f m), w m)
+weighed-small weight flips w f m = sum-bound m 4194240 (λ j l. omega (arith, mul-le-mul-left (weight j) (f j), w j))
 
 -- What fits the bits that C gets.
 abbrev pub Small : Scored → Type 0

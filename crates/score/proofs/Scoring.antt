@@ -1,9 +1,9 @@
 -- The operation by its rows: refused by the matrix, by the answer, or because they differ (15); else the score (`taken-row`).
-use mathlib.Core.Path.{_≡_, refl, sym, ap, _∙_}
+use mathlib.Core.Path.{_≡_, refl, ap, _∙_}
 use mathlib.Core.List.{List}
-use Prim.Native.Nat.{ℕ, zero, suc, _+_, _*_, _≤_, _<_}
+use Prim.Native.Nat.{ℕ, zero, suc, _≤_, _<_}
 use native.Mathlib.Omega.{arith}
-use lib.ListN.{getD, length, replicate, length-replicate}
+use lib.ListN.{getD, length, replicate}
 use borrow.Author.Tests.{eq-eqb, ne-eqb}
 use Rattle.record.specs.Records.{refused}
 use Rattle.record.specs.declared.Cursor.{Cursor}
@@ -18,13 +18,12 @@ use Rattle.answer.specs.declared.Answer.{Answer}
 use Rattle.answer.specs.Content.{contentIn, groupsIn, taxaIn, padded, answerOf}
 use Rattle.answer.specs.Reading.{fileTests}
 use Rattle.answer.proofs.Runs.{length-entries, at-front}
-use Rattle.answer.proofs.Outcomes.{Laid}
 use Rattle.score.specs.declared.Raises.{Raises}
 use Rattle.score.specs.declared.Lowers.{Lowers}
 use Rattle.score.specs.declared.Scored.{Scored}
 use Rattle.score.specs.declared.Scored.the-variants.{Taken, Refused}
-use Rattle.score.specs.Score.{leaf, nearest, nearestIn, nodeFor, raisesOf, lowersOf}
-use Rattle.score.specs.Operation.{nodeIn, agreed, scored, Returned, returned, scoreNumbers, Readable}
+use Rattle.score.specs.Score.{leaf, nearestIn, nodeFor, raisesOf, lowersOf}
+use Rattle.score.specs.Operation.{nodeIn, agreed, scored, returned, scoreNumbers}
 
 -- ---- the groups in a value's places
 

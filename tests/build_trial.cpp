@@ -1,0 +1,67 @@
+// Compares the build operation with the independent program: numbers, output and workspace.
+//   build_trial FOLDER [COUNT]
+#include "gen/cases.h"
+#include "gen/damage.h"
+#include "gen/matrices.h"
+#include "lent.h"
+#include "oracle/build.h"
+#include "probe.h"
+#include "specimens.h"
+#include "tally.h"
+#include "trial.h"
+
+namespace {
+
+using gen::BuildCase;
+using oracle::Bytes;
+
+void compare(Tally& tally, gen::Random& random, const BuildCase& given) {
+    const oracle::BuildOutcome expected = oracle::build(given.file, given.workspace, given.room);
+    const oracle::Refusal& refusal = expected.refusal;
+    Lent<std::int32_t> workspace(random, given.workspace);
+    Lent<std::uint8_t> out(random, given.room);
+    Lent<std::uint64_t> result(random, 5);
+    const bool answered = probe_build(start_of(given.file), given.file.size(), workspace.data(), workspace.size(),
+                                      out.data(), out.size(), result.data(), result.size());
+    const std::string which =
+        " for workspace " + std::to_string(given.workspace) + " and room " + std::to_string(given.room);
+    if (!answered || !result.holds({refusal.number, refusal.place, expected.file.size(), expected.total, 0}))
+        tally.differ("the numbers of the build" + which, given.file);
+    if (!out.holds(expected.file)) tally.differ("the output" + which, given.file);
+    std::size_t cleared = 0;
+    if (!refusal.refused()) {
+        const oracle::CheckOutcome size = oracle::check(given.file);
+        cleared = size.n * size.m;
+    }
+    if (!workspace.holds(std::vector<std::int32_t>(cleared, 0))) tally.differ("the workspace" + which, given.file);
+    tally.agreed(refusal.number);
+}
+
+// Buffers just long enough, and each of them one too short.
+void edge_cases(Tally& tally, gen::Random& random, const Bytes& file) {
+    const oracle::CheckOutcome size = oracle::check(file);
+    if (size.refusal.refused()) {
+        compare(tally, random, {file, 0, 0});
+        return;
+    }
+    const std::size_t workspace = size.n * size.m;
+    const std::size_t room = 20 + 16 * (size.n - 1) + 22 * size.m;
+    compare(tally, random, {file, workspace, room});
+    compare(tally, random, {file, workspace, room - 1});
+    if (workspace == 0) return;
+    compare(tally, random, {file, workspace - 1, room});
+    compare(tally, random, {file, workspace - 1, room - 1});
+}
+
+}  // namespace
+
+int main(int argc, char** argv) {
+    const TrialWords words = trial_words(argc, argv, 4000);
+    Tally tally("build", words.folder);
+    gen::Random random(5);
+    for (const Specimen& specimen : specimens()) edge_cases(tally, random, specimen.file);
+    for (int k = 0; k < 200; ++k) edge_cases(tally, random, oracle::matrix_file(gen::random_matrix(random)));
+    for (unsigned long k = 0; k < words.count; ++k) compare(tally, random, gen::build_case(random));
+    tally.finish({0, 1, 2, 3, 4, 5, 6, 7, 8, 9, 10});
+    return 0;
+}

@@ -1,0 +1,104 @@
+#include "cases.h"
+
+#include "../oracle/build.h"
+#include "answers.h"
+#include "damage.h"
+#include "matrices.h"
+
+namespace gen {
+
+using oracle::Answer;
+using oracle::Matrix;
+
+namespace {
+
+// Enough, now and then more, and now and then one or many too few.
+std::size_t around(Random& random, std::size_t enough) {
+    const std::uint64_t choice = random.below(20);
+    if (choice == 0 && enough > 0) return enough - 1;
+    if (choice == 1) return random.below(enough + 1);
+    return choice < 8 ? enough + random.below(40) : enough;
+}
+
+Bytes maybe_damaged(Random& random, const Bytes& file) { return random.chance(10) ? damaged(random, file) : file; }
+
+Bytes matrix_file_of(Random& random, const Matrix& matrix) {
+    return random.chance(5) ? unlawful_matrix(random, matrix) : maybe_damaged(random, oracle::matrix_file(matrix));
+}
+
+std::size_t workspace_of(const Matrix& matrix) { return matrix.n * matrix.columns.size(); }
+
+// The answer of a build, or one of no matrix.
+Answer some_answer(Random& random) {
+    return random.chance(40) ? oracle::answer_of(random_matrix(random)) : random_answer(random);
+}
+
+}  // namespace
+
+SplitCase split_case(Random& random) {
+    const Matrix matrix = random_matrix(random);
+    SplitCase made;
+    made.file = matrix_file_of(random, matrix);
+    made.group = random.bits() & (random.chance(30) ? ~oracle::TaxonSet{0} : random.bits());
+    if (random.chance(95)) made.group &= oracle::all_taxa(matrix.n);
+    if (random.chance(30) || (oracle::size(made.group) < 2 && random.chance(80))) made.group = oracle::all_taxa(matrix.n);
+    made.workspace = around(random, workspace_of(matrix));
+    return made;
+}
+
+BuildCase build_case(Random& random) {
+    const Matrix matrix = random_matrix(random);
+    BuildCase made;
+    made.file = matrix_file_of(random, matrix);
+    made.workspace = around(random, workspace_of(matrix));
+    made.room = around(random, 20 + 16 * (matrix.n - 1) + 22 * matrix.columns.size());
+    return made;
+}
+
+ReadCase read_case(Random& random) {
+    Answer answer = some_answer(random);
+    ReadCase made;
+    made.list = around(random, answer.value.flip_count);
+    if (random.chance(60)) spoil_records(random, answer);
+    made.file = oracle::answer_file(answer);
+    if (random.chance(40)) made.file = damaged(random, made.file);
+    if (random.chance(3)) made.file = random_bytes(random);
+    return made;
+}
+
+// Places past the last group and entries past the last flip hold anything: writing reads none of them.
+WriteCase write_case(Random& random) {
+    Answer answer = some_answer(random);
+    for (std::size_t k = answer.value.group_count; k < answer.value.groups.size(); ++k)
+        answer.value.groups[k] = oracle::Group{random.bits(), static_cast<std::uint32_t>(random.bits())};
+    WriteCase made;
+    made.room = around(random, oracle::answer_length(answer.value.group_count, answer.value.flip_count));
+    const std::size_t list = around(random, answer.value.flip_count);
+    if (random.chance(40)) spoil_records(random, answer);
+    if (random.chance(20)) spoil_head(random, answer.value);
+    made.value = answer.value;
+    made.list = answer.flips;
+    // An entry is wider than a file's 2 bytes for a column.
+    if (!made.list.empty() && random.chance(3)) made.list[random.below(made.list.size())].column += 65536;
+    while (made.list.size() > list) made.list.pop_back();
+    while (made.list.size() < list) made.list.push_back(oracle::Flip{random.bits(), random.bits(), random.bits()});
+    return made;
+}
+
+ScoreCase score_case(Random& random) {
+    const Matrix matrix = random_matrix(random);
+    const unsigned m = static_cast<unsigned>(matrix.columns.size());
+    Answer answer;
+    switch (random.below(8)) {
+        case 0: answer = random_answer(random); break;  // mostly of another size
+        case 1: answer = random_answer(random, matrix.n, (m + 1) % 257); break;
+        case 2: answer = random_answer(random, matrix.n % 64 + 1, m); break;
+        case 3:
+        case 4: answer = oracle::answer_of(matrix); break;
+        default: answer = random_answer(random, matrix.n, m); break;
+    }
+    if (random.chance(10)) spoil_records(random, answer);
+    return {matrix_file_of(random, matrix), maybe_damaged(random, oracle::answer_file(answer))};
+}
+
+}  // namespace gen

@@ -1,0 +1,113 @@
+// Compares what the program `outline` prints with what the independent program would.
+//   outline_trial FOLDER COUNT PROGRAM [ARGUMENT...]
+#include <cstdio>
+#include <cstdlib>
+#include <fstream>
+#include <sstream>
+#include <string>
+#include <vector>
+
+#include "gen/damage.h"
+#include "gen/matrices.h"
+#include "oracle/matrix.h"
+#include "oracle/outline.h"
+#include "program.h"
+#include "specimens.h"
+#include "tally.h"
+
+namespace {
+
+using oracle::Bytes;
+
+// The first line that is not the same, for people to read.
+std::string first_difference(const std::string& expected, const std::string& found) {
+    std::istringstream of_expected(expected), of_found(found);
+    std::string x, y;
+    for (int line = 1;; ++line) {
+        const bool more_x = static_cast<bool>(std::getline(of_expected, x));
+        const bool more_y = static_cast<bool>(std::getline(of_found, y));
+        if (more_x && more_y && x == y) continue;
+        if (!more_x && !more_y) return "the same lines, but not the same line feeds";
+        return "line " + std::to_string(line) + ", expected '" + (more_x ? x : "") + "', found '" + (more_y ? y : "") + "'";
+    }
+}
+
+class OutlineTrial {
+public:
+    OutlineTrial(const std::string& folder, std::vector<std::string> command)
+        : tally_("outline", folder), input_(folder + "/outline.matrix"), command_(std::move(command)) {}
+
+    void expect(const Bytes& file, const std::string& text) {
+        std::ofstream(input_, std::ios::binary).write(reinterpret_cast<const char*>(file.data()),
+                                                      static_cast<std::streamsize>(file.size()));
+        const Printed found = run_program(command_, input_);
+        if (!found.ended_well) tally_.differ("the program failed", file);
+        if (found.text != text) tally_.differ(first_difference(text, found.text), file);
+        tally_.agreed(oracle::check(file).refusal.number);
+    }
+
+    void compare(const Bytes& file) { expect(file, oracle::outline(file)); }
+
+    void finish() const { tally_.finish({0, 1, 2, 3, 4, 5, 6, 7, 8}); }
+
+private:
+    Tally tally_;
+    std::string input_;
+    std::vector<std::string> command_;
+};
+
+void specimen_cases(OutlineTrial& trial) {
+    for (const Specimen& specimen : specimens()) {
+        if (!specimen.printed.empty()) trial.expect(specimen.file, specimen.printed);
+        trial.compare(specimen.file);
+    }
+}
+
+// The largest size in every style.
+void largest_cases(OutlineTrial& trial, gen::Random& random) {
+    for (gen::Shape shape : {gen::Shape::free, gen::Shape::tree, gen::Shape::noisy_tree, gen::Shape::intervals,
+                             gen::Shape::blocks})
+        for (gen::Weights weights : {gen::Weights::one, gen::Weights::heavy})
+            for (unsigned known : {100u, 50u, 8u})
+                trial.compare(oracle::matrix_file(gen::random_matrix(random, 64, 256, {shape, weights, known})));
+}
+
+// Far more bytes than a matrix can have: before, at and after a buffer for the largest.
+void long_files(OutlineTrial& trial, gen::Random& random) {
+    const Bytes largest = oracle::matrix_file(gen::random_matrix(random, 64, 256, gen::Style{}));
+    for (std::size_t more : {1u, 2u, 3u, 4u, 4096u, 100000u}) {
+        for (Bytes file : {specimens()[0].file, largest}) {
+            file.resize(file.size() + more);
+            trial.compare(file);
+        }
+    }
+    trial.compare(Bytes(100000, 255));
+}
+
+void random_cases(OutlineTrial& trial, gen::Random& random, unsigned long count) {
+    for (unsigned long k = 0; k < count; ++k) {
+        const oracle::Matrix matrix = gen::random_matrix(random);
+        trial.compare(oracle::matrix_file(matrix));
+        if (k % 4 == 0) trial.compare(gen::damaged(random, oracle::matrix_file(matrix)));
+        if (k % 4 == 1) trial.compare(gen::unlawful_matrix(random, matrix));
+    }
+}
+
+}  // namespace
+
+int main(int argc, char** argv) {
+    if (argc < 4) {
+        std::fprintf(stderr, "usage: outline_trial FOLDER COUNT PROGRAM [ARGUMENT...]\n");
+        return 2;
+    }
+    OutlineTrial trial(argv[1], std::vector<std::string>(argv + 3, argv + argc));
+    gen::Random random(3);
+    specimen_cases(trial);
+    for (const Bytes& file : gen::prefixes(specimens()[0].file)) trial.compare(file);
+    for (const Bytes& file : gen::byte_changes(specimens()[0].file)) trial.compare(file);
+    random_cases(trial, random, std::strtoul(argv[2], nullptr, 10));
+    largest_cases(trial, random);
+    long_files(trial, random);
+    trial.finish();
+    return 0;
+}

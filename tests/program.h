@@ -1,0 +1,13 @@
+// Runs a program on a file and keeps what it prints.
+#pragma once
+
+#include <string>
+#include <vector>
+
+struct Printed {
+    std::string text;
+    bool ended_well = false;  // the program ended by itself, with status 0
+};
+
+// `command` is the program and its arguments; the file becomes its standard input.
+Printed run_program(const std::vector<std::string>& command, const std::string& file_name);
