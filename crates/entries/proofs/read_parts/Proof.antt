@@ -1,17 +1,11 @@
 -- `entries::read_parts` meets its contract: crate answer reads into the first of the three parts, as many as the list has entries, at most 256.
 use borrow.Author.Needs.{needs}
-use mathlib.Core.Path.{_≡_, sym}
-use mathlib.Core.List.{List}
-use Prim.Native.Nat.{ℕ, min}
+use mathlib.Core.Path.{sym}
 use native.Mathlib.Omega.{arith}
-use lib.ListN.{length, take}
 use lib.Seq.{length-take-le}
 use Rattle.entries.proofs.Reading.{in-parts}
 use Rattle.entries.proofs.read_parts.Statement.{statement}
 use Rattle.entries.proofs.read_parts.Tie as tie
-
-fits : (xs : List ℕ) {k : ℕ} (n : ℕ) → length xs ≡ 256 → k ≡ min n 256 → k ≡ length (take k xs)
-fits xs {k} n e l = sym (length-take-le k xs (omega arith))
 
 at-most-256-requires : tie.Need-at-most-256-requires
 at-most-256-requires c κs = search needs
@@ -20,19 +14,19 @@ slice-relend-prefix-read : tie.Need-slice-relend-prefix-read
 slice-relend-prefix-read c = search needs
 
 slice-aggregate-read : tie.Need-slice-aggregate-read
-slice-aggregate-read c = fits _ _ (c .before .before .before .before .before .before .pre .0) (c .before .at-most-256 .ensures)
+slice-aggregate-read c = let start = c .before .before .before .before .before .before in sym (length-take-le _ _ (omega (arith, start .pre .0, start .pre .1 .0, start .pre .1 .1, c .before .at-most-256 .ensures)))
 
 slice-relend-prefix-read-2 : tie.Need-slice-relend-prefix-read-2
 slice-relend-prefix-read-2 c = search needs
 
 slice-aggregate-read-2 : tie.Need-slice-aggregate-read-2
-slice-aggregate-read-2 c = fits _ _ (c .before .before .before .before .before .before .before .pre .1 .0) (c .before .before .at-most-256 .ensures)
+slice-aggregate-read-2 c = let start = c .before .before .before .before .before .before .before in sym (length-take-le _ _ (omega (arith, start .pre .0, start .pre .1 .0, start .pre .1 .1, c .before .before .at-most-256 .ensures)))
 
 slice-relend-prefix-read-3 : tie.Need-slice-relend-prefix-read-3
 slice-relend-prefix-read-3 c = search needs
 
 slice-aggregate-read-3 : tie.Need-slice-aggregate-read-3
-slice-aggregate-read-3 c = fits _ _ (c .before .before .before .before .before .before .before .before .pre .1 .1) (c .before .before .before .at-most-256 .ensures)
+slice-aggregate-read-3 c = let start = c .before .before .before .before .before .before .before .before in sym (length-take-le _ _ (omega (arith, start .pre .0, start .pre .1 .0, start .pre .1 .1, c .before .before .before .at-most-256 .ensures)))
 
 read-requires : tie.Need-read-requires
 read-requires c κs = search needs

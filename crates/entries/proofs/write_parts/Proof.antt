@@ -21,13 +21,13 @@ listed-first k cs us ds l w = rw many at w
     many = let a = length-take-le k cs (l .0) in let b = length-take-le k us (l .1 .0) in let c = length-take-le k ds (l .1 .1) in omega arith
 
 slice-aggregate-write : tie.Need-slice-aggregate-write
-slice-aggregate-write c = sym (length-take-le _ _ (c .before .before .before .before .before .pre .0))
+slice-aggregate-write c = let start = c .before .before .before .before .before in sym (length-take-le _ _ (omega (arith, start .pre .0, start .pre .1 .0, start .pre .1 .1)))
 
 slice-aggregate-write-2 : tie.Need-slice-aggregate-write-2
-slice-aggregate-write-2 c = sym (length-take-le _ _ (c .before .before .before .before .before .before .pre .1 .0))
+slice-aggregate-write-2 c = let start = c .before .before .before .before .before .before in sym (length-take-le _ _ (omega (arith, start .pre .0, start .pre .1 .0, start .pre .1 .1)))
 
 slice-aggregate-write-3 : tie.Need-slice-aggregate-write-3
-slice-aggregate-write-3 c = sym (length-take-le _ _ (c .before .before .before .before .before .before .before .pre .1 .1))
+slice-aggregate-write-3 c = let start = c .before .before .before .before .before .before .before in sym (length-take-le _ _ (omega (arith, start .pre .0, start .pre .1 .0, start .pre .1 .1)))
 
 write-requires : tie.Need-write-requires
 write-requires c κs = search needs
