@@ -18,8 +18,13 @@ const T* start_of(const std::vector<T>& list) {
 template <class T>
 class Lent {
 public:
-    Lent(gen::Random& random, std::size_t length) : length_(length), before_(length + margin) {
-        for (T& value : before_) value = static_cast<T>(random.bits());
+    Lent(gen::Random& random, std::size_t length)
+        : Lent(length, [&random] { return static_cast<T>(random.bits()); }) {}
+
+    // The same where a value is not one number: `noise` makes each.
+    template <class Noise>
+    Lent(std::size_t length, Noise noise) : length_(length), before_(length + margin) {
+        for (T& value : before_) value = noise();
         now_ = before_;
     }
 

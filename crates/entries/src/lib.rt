@@ -13,7 +13,8 @@ ghost use Rattle.answer.specs.Content.{contentOf};
 ghost use Rattle.answer.specs.Writing.{Writes};
 ghost use Rattle.entries.specs.Entries.{zipped, columnsOf, raisedOf, loweredOf, over, narrow, InParts, ReadsEntries};
 
-// A column with its raised and lowered taxa, the column in its file width.
+// A column with its raised and lowered taxa, the column in its file width. As C lays it out, so that C can lend a list of them.
+#[repr(C)]
 pub struct Flip {
     pub column: u16,
     pub raised: u64,

@@ -1,9 +1,12 @@
 // For the trials alone (tests/probe.h): the operations as C can call them, the numbers that they return put into a lent `result`.
-// Promises nothing but that each call is safe, whatever it is lent: where a lent buffer is too short for the numbers, the answer is false.
-// Rests on record, split, answer and tree, whose contracts say what the numbers are.
+// Promises nothing but that each call is safe, whatever it is lent: where `result` is too short for the numbers, the answer is false.
+// Rests on record, split, answer, entries and tree, whose contracts say what the numbers are. A function that has the list of entries is
+// proved by hand, so it only calls: no test stands in it.
 use answer::Answer;
+use answer::Reading;
 use answer::Verdict;
 use answer::Written;
+use entries::Flip;
 use split::Divided;
 use tree::Built;
 ghost use Prim.Native.Nat.{_≤_};
@@ -100,6 +103,19 @@ fn put_costs(result: &mut [u64], costs: &[u32; 63])
     }
 }
 
+fn put_reading(result: &mut [u64], reading: Reading) -> bool {
+    if result.len() < 133 {
+        return false;
+    }
+    let answer = reading.answer;
+    let verdict = reading.verdict;
+    put_verdict(result, verdict);
+    put_head(result, answer);
+    put_taxa(result, &answer.taxa);
+    put_costs(result, &answer.costs);
+    true
+}
+
 #[no_mangle]
 pub extern "C" fn probe_read(
     file: &[u8],
@@ -108,17 +124,14 @@ pub extern "C" fn probe_read(
     lowered: &mut [u64],
     result: &mut [u64],
 ) -> bool {
-    if result.len() < 133 {
-        return false;
-    }
     let reading = answer::read(file, columns, raised, lowered);
-    let answer = reading.answer;
-    let verdict = reading.verdict;
-    put_verdict(result, verdict);
-    put_head(result, answer);
-    put_taxa(result, &answer.taxa);
-    put_costs(result, &answer.costs);
-    true
+    put_reading(result, reading)
+}
+
+#[no_mangle]
+pub extern "C" fn probe_read_entries(file: &[u8], list: &mut [Flip], result: &mut [u64]) -> bool {
+    let reading = entries::read_answer(file, list);
+    put_reading(result, reading)
 }
 
 fn taxa_of(list: &[u64]) -> [u64; 63]
@@ -145,10 +158,30 @@ fn costs_of(list: &[u32]) -> [u32; 63]
     costs
 }
 
+// What is written where a lent list is too short: n is 0, which is refused.
+fn blank() -> Answer {
+    Answer {
+        n: 0,
+        m: 0,
+        groups: 0,
+        flips: 0,
+        total: 0,
+        taxa: [0u64; 63],
+        costs: [0u32; 63],
+    }
+}
+
 // The head's n, m and two counts, its total, and the groups with their costs.
-fn answer_of(head: &[u16], total: u32, taxa: &[u64], costs: &[u32]) -> Answer
-    requires { ⌜ (4 ≤ length (now head)) × (63 ≤ length (now taxa)) × (63 ≤ length (now costs)) ⌝ }
-{
+fn answer_of(head: &[u16], total: u32, taxa: &[u64], costs: &[u32]) -> Answer {
+    if head.len() < 4 {
+        return blank();
+    }
+    if taxa.len() < 63 {
+        return blank();
+    }
+    if costs.len() < 63 {
+        return blank();
+    }
     Answer {
         n: head[0],
         m: head[1],
@@ -158,6 +191,17 @@ fn answer_of(head: &[u16], total: u32, taxa: &[u64], costs: &[u32]) -> Answer
         taxa: taxa_of(taxa),
         costs: costs_of(costs),
     }
+}
+
+fn put_written(result: &mut [u64], written: Written) -> bool {
+    if result.len() < 5 {
+        return false;
+    }
+    match written {
+        Written::Length(size) => put(result, 0, 0, size as u64, 0, 0),
+        Written::Refused(why) => put(result, why.number as u64, why.place as u64, 0, 0, 0),
+    }
+    true
 }
 
 #[no_mangle]
@@ -172,23 +216,22 @@ pub extern "C" fn probe_write(
     out: &mut [u8],
     result: &mut [u64],
 ) -> bool {
-    if head.len() < 4 {
-        return false;
-    }
-    if taxa.len() < 63 {
-        return false;
-    }
-    if costs.len() < 63 {
-        return false;
-    }
-    if result.len() < 5 {
-        return false;
-    }
     let given = answer_of(head, total, taxa, costs);
     let written = answer::write(given, columns, raised, lowered, out);
-    match written {
-        Written::Length(size) => put(result, 0, 0, size as u64, 0, 0),
-        Written::Refused(why) => put(result, why.number as u64, why.place as u64, 0, 0, 0),
-    }
-    true
+    put_written(result, written)
+}
+
+#[no_mangle]
+pub extern "C" fn probe_write_entries(
+    head: &[u16],
+    total: u32,
+    taxa: &[u64],
+    costs: &[u32],
+    list: &[Flip],
+    out: &mut [u8],
+    result: &mut [u64],
+) -> bool {
+    let given = answer_of(head, total, taxa, costs);
+    let written = entries::write_answer(given, list, out);
+    put_written(result, written)
 }
