@@ -11,97 +11,80 @@ use Rattle.record.specs.Records.{recordOf, payload, left, judged, onward, nothi
 use Rattle.record.specs.Records as records
 use Rattle.record.specs.declared.Cursor.{Cursor}
 use Rattle.record.specs.declared.Refusal.{Refusal}
-use Rattle.record.specs.declared.Record.{Record}
-use Rattle.record.specs.declared.Step.{Step}
-use Rattle.record.specs.declared.Step.the-variants as step
 use Rattle.record.specs.declared.Passed.{Passed}
 use Rattle.record.specs.declared.Passed.the-variants.{At, Refused}
-use Rattle.record.proofs.Steps.{EndsBy, step-ends, either-way}
+use Rattle.record.proofs.Steps.{either-way}
+use Rattle.record.proofs.Places.{By, by-later, by-onward, by-record}
 use Rattle.matrix.proofs.Passing.{head}
 use Rattle.matrix.specs.Matrix.{columnAt}
 use Rattle.matrix.specs.declared.Checked.{Checked}
 use Rattle.matrix.specs.declared.Checked.the-variants as checks
 use Rattle.matrix.specs.Check.{headJudged, headPassed, columnJudged, columnPassed, columnsPassed, endPassed, filePassed, answered, checked}
 
--- A reading that ends by `far` at the latest: passed, the cursor is there; refused, its place is, by a number from 1 to 8.
-abbrev By : ℕ → Passed → Type 0
-By far (At here) = here .at ≤ far
-By far (Refused why) = (why .place ≤ far) × (0 < why .number) × (why .number ≤ 8)
-
-by-later : (near far : ℕ) → near ≤ far → (p : Passed) → By near p → By far p
-by-later near far l (At here) b = omega arith
-by-later near far l (Refused why) b = (omega arith, b .1, b .2)
-
-by-onward : (far : ℕ) (p : Passed) (go : Cursor → Passed) → By far p → ((c : Cursor) → At c ≡ p → By far (go c)) → By far (onward p go)
-by-onward far (At c) go b h = h c refl
-by-onward far (Refused why) go b h = b
-
-by-judged : (at far : ℕ) (it : Record) (s : Step) (judge : ℕ → Cursor → Passed) → EndsBy at it s → at ≤ far
-    → ((b : ℕ) (c : Cursor) → c .at ≡ at + 4 + it .length → By far (judge b c)) → By far (judged s judge)
-by-judged at far it (step.Payload b c) judge e l h = h b c e
-by-judged at far it (step.Refused why) judge e l h = (omega arith, e .1, omega arith)
+-- The check's numbers.
+abbrev Number : ℕ → Type 0
+Number k = (0 < k) × (k ≤ 8)
 
 module _ (file : List ℕ) where
-  -- A record's step, and then the tests of its content.
-  record-by : (kind at far : ℕ) (judge : ℕ → Cursor → Passed) → at ≤ far → ((b : ℕ) (c : Cursor) → c .at ≡ at + 4 + payload kind → By far (judge b c))
-      → By far (judged (step file at (recordOf kind)) judge)
-  record-by kind at far judge = by-judged at far (recordOf kind) (step file at (recordOf kind)) judge (step-ends file at (recordOf kind))
+  record-by : (kind at far : ℕ) (judge : ℕ → Cursor → Passed) → at ≤ far → ((b : ℕ) (c : Cursor) → c .at ≡ at + 4 + payload kind → By Number far (judge b c))
+      → By Number far (judged (step file at (recordOf kind)) judge)
+  record-by kind at far judge l = by-record Number (λ k some few. (some, omega arith)) at far judge l file kind
 
-  head-by : By 8 (headPassed file)
+  head-by : By Number 8 (headPassed file)
   unfolding headPassed headJudged
   head-by =
       record-by records.matrixHead 0 8 _ (lit≤ tt) (λ b c e.
-      either-way (By 8) (eqb (numberAt 2 file b) 0 || ltb 64 (numberAt 2 file b)) (lit≤ tt, lit< tt, lit≤ tt)
-      (either-way (By 8) (ltb 256 (numberAt 2 file (b + 2))) (lit≤ tt, lit< tt, lit≤ tt) (omega arith)))
+      either-way (By Number 8) (eqb (numberAt 2 file b) 0 || ltb 64 (numberAt 2 file b)) (lit≤ tt, (lit< tt, lit≤ tt))
+      (either-way (By Number 8) (ltb 256 (numberAt 2 file (b + 2))) (lit≤ tt, (lit< tt, lit≤ tt)) (omega arith)))
 
-  column-by : (known : ℕ) (here : Cursor) → By (here .at + 22) (columnPassed file known here)
+  column-by : (known : ℕ) (here : Cursor) → By Number (here .at + 22) (columnPassed file known here)
   unfolding columnPassed columnJudged
   column-by known here =
       record-by records.column (here .at) (here .at + 22) _ (omega arith) (λ b c e.
       let it = columnAt file b in
-      either-way (By (here .at + 22)) (eqb (it .weight) 0) (omega arith, lit< tt, lit≤ tt)
-      (either-way (By (here .at + 22)) (within (it .ones) known && within (it .zeros) known)
-      (either-way (By (here .at + 22)) (eqb (it .ones ∩ it .zeros) 0) (omega arith) (omega arith, lit< tt, lit≤ tt))
-      (omega arith, lit< tt, lit≤ tt)))
+      either-way (By Number (here .at + 22)) (eqb (it .weight) 0) (omega arith, (lit< tt, lit≤ tt))
+      (either-way (By Number (here .at + 22)) (within (it .ones) known && within (it .zeros) known)
+      (either-way (By Number (here .at + 22)) (eqb (it .ones ∩ it .zeros) 0) (omega arith) (omega arith, (lit< tt, lit≤ tt)))
+      (omega arith, (lit< tt, lit≤ tt))))
 
-  columns-by : (known m : ℕ) (here : Cursor) → By (here .at + 22 * m) (columnsPassed file known m here)
+  columns-by : (known m : ℕ) (here : Cursor) → By Number (here .at + 22 * m) (columnsPassed file known m here)
   unfolding columnsPassed
   columns-by known zero here = omega arith
   columns-by known (suc m) here =
       let far = here .at + 22 * suc m in
-      by-onward far (columnPassed file known here) (columnsPassed file known m) (by-later (here .at + 22) far (omega arith) (columnPassed file known here) (column-by known here)) (λ c e.
+      by-onward Number far (columnPassed file known here) (columnsPassed file known m) (by-later Number (here .at + 22) far (omega arith) (columnPassed file known here) (column-by known here)) (λ c e.
       let near : c .at ≤ here .at + 22 = rw (← e) at (column-by known here) in
-      by-later (c .at + 22 * m) far (omega arith) (columnsPassed file known m c) (columns-by known m c))
+      by-later Number (c .at + 22 * m) far (omega arith) (columnsPassed file known m c) (columns-by known m c))
 
-  end-by : (here : Cursor) → By (here .at + 4) (endPassed file here)
+  end-by : (here : Cursor) → By Number (here .at + 4) (endPassed file here)
   unfolding endPassed nothingAfter
   end-by here =
       record-by records.matrixEnd (here .at) (here .at + 4) _ (omega arith) (λ b c e.
-      either-way (By (here .at + 4)) (ltb 0 (left file (c .at))) (omega arith, lit< tt, lit≤ tt) (omega arith))
+      either-way (By Number (here .at + 4)) (ltb 0 (left file (c .at))) (omega arith, (lit< tt, lit≤ tt)) (omega arith))
 
   -- The largest matrix file has 12 + 22 · 256 bytes.
   abbrev largest : ℕ
   largest = 5644
 
-  all-by : By largest (filePassed file)
+  all-by : By Number largest (filePassed file)
   unfolding filePassed
   all-by =
-      by-onward largest (headPassed file) _ (by-later 8 largest (lit≤ tt) (headPassed file) head-by) (λ first h.
+      by-onward Number largest (headPassed file) _ (by-later Number 8 largest (lit≤ tt) (headPassed file) head-by) (λ first h.
       let few = head file h .columns in
       let at : first .at ≡ 8 = head file h .stands .moves in
       let known = all (numberAt 2 file 4) in
       let m = numberAt 2 file 6 in
-      by-onward largest (columnsPassed file known m first) (endPassed file) (by-later (first .at + 22 * m) largest (omega arith) (columnsPassed file known m first) (columns-by known m first)) (λ end c.
+      by-onward Number largest (columnsPassed file known m first) (endPassed file) (by-later Number (first .at + 22 * m) largest (omega arith) (columnsPassed file known m first) (columns-by known m first)) (λ end c.
       let near : end .at ≤ first .at + 22 * m = rw (← c) at (columns-by known m first) in
-      by-later (end .at + 4) largest (omega arith) (endPassed file end) (end-by end)))
+      by-later Number (end .at + 4) largest (omega arith) (endPassed file end) (end-by end)))
 
   abbrev Small : Checked → Type 0
   Small (checks.Taken n m) = Unit {0}
   Small (checks.Refused why) = (why .place ≤ largest) × (0 < why .number) × (why .number ≤ 8)
 
-  small : (n m : ℕ) (p : Passed) → By largest p → Small (answered n m p)
+  small : (n m : ℕ) (p : Passed) → By Number largest p → Small (answered n m p)
   small n m (At here) b = tt
-  small n m (Refused why) b = b
+  small n m (Refused why) b = (b .0, b .1 .0, b .1 .1)
 
   pub refusal-small : {why : Refusal} → checks.Refused why ≡ checked file → (why .place ≤ largest) × (0 < why .number) × (why .number ≤ 8)
   unfolding checked

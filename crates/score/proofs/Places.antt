@@ -14,15 +14,13 @@ use Rattle.taxa.proofs.Counts.{count-le}
 use Rattle.taxa.proofs.Sums.{sum-bound}
 use Rattle.record.specs.Bytes.{File}
 use Rattle.record.specs.Records as records
-use Rattle.record.specs.Records.{recordOf, payload, left, judged, onward, nothingAfter, step}
+use Rattle.record.specs.Records.{payload, left, nothingAfter}
 use Rattle.record.specs.declared.Cursor.{Cursor}
-use Rattle.record.specs.declared.Record.{Record}
-use Rattle.record.specs.declared.Step.{Step}
-use Rattle.record.specs.declared.Step.the-variants as step
 use Rattle.record.specs.declared.Passed.{Passed}
 use Rattle.record.specs.declared.Passed.the-variants.{At, Refused}
 use Rattle.record.proofs.Numbers.{at-lt}
-use Rattle.record.proofs.Steps.{EndsBy, step-ends, either-way}
+use Rattle.record.proofs.Steps.{either-way}
+use Rattle.record.proofs.Places.{By, by-later, by-onward, by-record}
 use Rattle.matrix.specs.declared.Checked.{Checked}
 use Rattle.matrix.specs.declared.Checked.the-variants as checks
 use Rattle.matrix.specs.Matrix.{columnIn}
@@ -39,40 +37,23 @@ use Rattle.score.specs.declared.Scored.the-variants as scores
 use Rattle.score.specs.Score.{raisesAt, lowersAt, raisesOf, lowersOf}
 use Rattle.score.specs.Operation.{nodeIn, agreed, afterAnswer, afterMatrix, scored}
 
--- A reading that ends by `far` at the latest: passed, the cursor is there; refused, its place is, by a number up to 15.
-abbrev By : ℕ → Passed → Type 0
-By far (At here) = here .at ≤ far
-By far (Refused why) = (why .place ≤ far) × (why .number ≤ 15)
-
-by-later : (near far : ℕ) → near ≤ far → (p : Passed) → By near p → By far p
-by-later near far l (At here) b = omega arith
-by-later near far l (Refused why) b = (omega arith, b .1)
-
-by-onward : (far : ℕ) (p : Passed) (go : Cursor → Passed) → By far p → ((c : Cursor) → At c ≡ p → By far (go c)) → By far (onward p go)
-by-onward far (At c) go b h = h c refl
-by-onward far (Refused why) go b h = b
-
-by-judged : (at far : ℕ) (it : Record) (s : Step) (judge : ℕ → Cursor → Passed) → EndsBy at it s → at ≤ far
-    → ((b : ℕ) (c : Cursor) → c .at ≡ at + 4 + it .length → By far (judge b c)) → By far (judged s judge)
-by-judged at far it (step.Payload b c) judge e l h = h b c e
-by-judged at far it (step.Refused why) judge e l h = (omega arith, omega arith)
+-- The score's numbers, and 0 where nothing is at fault.
+abbrev Few : ℕ → Type 0
+Few fault = fault ≤ 15
 
 -- A walk over records of w bytes each ends by w for each.
-walk-by : (one : ℕ → Cursor → Passed) (w : ℕ) → ((i : ℕ) (here : Cursor) → By (here .at + w) (one i here)) → (k : ℕ) (from : Cursor) → By (from .at + w * k) (walk one k from)
+walk-by : (one : ℕ → Cursor → Passed) (w : ℕ) → ((i : ℕ) (here : Cursor) → By Few (here .at + w) (one i here)) → (k : ℕ) (from : Cursor) → By Few (from .at + w * k) (walk one k from)
 unfolding walk
 walk-by one w h zero from = omega arith
 walk-by one w h (suc k) from =
     let far = from .at + w * suc k in
     let more : from .at + w * k + w ≡ far = omega arith in
     let before = walk-by one w h k from in
-    by-onward far (walk one k from) (one k) (by-later (from .at + w * k) far (omega (arith, more)) (walk one k from) before) (λ c e.
+    by-onward Few far (walk one k from) (one k) (by-later Few (from .at + w * k) far (omega (arith, more)) (walk one k from) before) (λ c e.
     let near : c .at ≤ from .at + w * k = rw (← e) at before in
-    by-later (c .at + w) far (omega (arith, near, more)) (one k c) (h k c))
+    by-later Few (c .at + w) far (omega (arith, near, more)) (one k c) (h k c))
 
 -- ---- an answer file
-
-abbrev Few : ℕ → Type 0
-Few fault = fault ≤ 15
 
 head-few : (n m groups flips listed : ℕ) → Few (headFault n m groups flips listed)
 unfolding headFault
@@ -94,26 +75,26 @@ entry-few n m floor column raised lowered =
 
 module _ (file : List ℕ) where
   -- A record that is met and judged at its place.
-  met-by : (kind fault : ℕ) (here : Cursor) → Few fault → By (here .at + (4 + payload kind)) (inFile file kind here (judge fault (here .at)))
+  met-by : (kind fault : ℕ) (here : Cursor) → Few fault → By Few (here .at + (4 + payload kind)) (inFile file kind here (judge fault (here .at)))
   unfolding judge
   met-by kind fault here few =
       let far = here .at + (4 + payload kind) in
-      by-judged (here .at) far (recordOf kind) (step file (here .at) (recordOf kind)) _ (step-ends file (here .at) (recordOf kind)) (omega arith) (λ b c e.
-      either-way (By far) (eqb fault 0) (omega arith) (omega arith, few))
+      by-record Few (λ k some few. omega arith) (here .at) far _ (omega arith) file kind (λ b c e.
+      either-way (By Few far) (eqb fault 0) (omega arith) (omega arith, few))
 
-  head-by : By 16 (headOf file)
+  head-by : By Few 16 (headOf file)
   unfolding headTest
   head-by = met-by records.answerHead _ (record { at = 0 }) (head-few _ _ _ _ _)
 
-  groups-by : (first : Cursor) → By (first .at + 16 * groupsIn file) (groupsOf file first)
+  groups-by : (first : Cursor) → By Few (first .at + 16 * groupsIn file) (groupsOf file first)
   unfolding groupTest
   groups-by first = walk-by _ 16 (λ i here. met-by records.group _ here (group-few _ _ i)) (groupsIn file) first
 
-  flips-by : (first : Cursor) → By (first .at + 22 * flipsIn file) (flipsOf file first)
+  flips-by : (first : Cursor) → By Few (first .at + 22 * flipsIn file) (flipsOf file first)
   unfolding entryTest
   flips-by first = walk-by _ 22 (λ j here. met-by records.flips _ here (entry-few _ _ _ _ _ _)) (flipsIn file) first
 
-  end-by : (here : Cursor) → By (here .at + 4) (endOf file here)
+  end-by : (here : Cursor) → By Few (here .at + 4) (endOf file here)
   unfolding endTest
   end-by here =
       let c = contentIn file in
@@ -123,24 +104,24 @@ module _ (file : List ℕ) where
   abbrev largest : ℕ
   largest = 6660
 
-  tests-by : By largest (tests (inFile file) (contentIn file) (flipsIn file))
+  tests-by : By Few largest (tests (inFile file) (contentIn file) (flipsIn file))
   unfolding tests
   tests-by =
-      by-onward largest (headOf file) _ (by-later 16 largest (lit≤ tt) (headOf file) head-by) (λ first h.
+      by-onward Few largest (headOf file) _ (by-later Few 16 largest (lit≤ tt) (headOf file) head-by) (λ first h.
       let (kept, at, long) = head-leads file h in
-      by-onward largest (groupsOf file first) _ (by-later (first .at + 16 * groupsIn file) largest (omega (arith, at, kept .few, kept .fewer)) (groupsOf file first) (groups-by first)) (λ flips g.
+      by-onward Few largest (groupsOf file first) _ (by-later Few (first .at + 16 * groupsIn file) largest (omega (arith, at, kept .few, kept .fewer)) (groupsOf file first) (groups-by first)) (λ flips g.
       let near : flips .at ≤ first .at + 16 * groupsIn file = rw (← g) at (groups-by first) in
       let few : flips .at + 22 * flipsIn file + 4 ≤ largest = omega (arith, near, at, kept .few, kept .fewer, kept .flips-fit, kept .columns) in
-      by-onward largest (flipsOf file flips) (endOf file) (by-later (flips .at + 22 * flipsIn file) largest (omega (arith, few)) (flipsOf file flips) (flips-by flips)) (λ end f.
+      by-onward Few largest (flipsOf file flips) (endOf file) (by-later Few (flips .at + 22 * flipsIn file) largest (omega (arith, few)) (flipsOf file flips) (flips-by flips)) (λ end f.
       let near₂ : end .at ≤ flips .at + 22 * flipsIn file = rw (← f) at (flips-by flips) in
-      by-later (end .at + 4) largest (omega (arith, near₂, few)) (endOf file end) (end-by end))))
+      by-later Few (end .at + 4) largest (omega (arith, near₂, few)) (endOf file end) (end-by end))))
 
-  pub answer-by : By largest (fileTests file)
+  pub answer-by : By Few largest (fileTests file)
   unfolding fileTests nothingAfter
   answer-by =
-      by-onward largest (tests (inFile file) (contentIn file) (flipsIn file)) _ tests-by (λ c e.
+      by-onward Few largest (tests (inFile file) (contentIn file) (flipsIn file)) _ tests-by (λ c e.
       let near : c .at ≤ largest = rw (← e) at tests-by in
-      either-way (By largest) (ltb 0 (left file (c .at))) (near, lit≤ tt) near)
+      either-way (By Few largest) (ltb 0 (left file (c .at))) (near, lit≤ tt) near)
 
 -- ---- the score
 
@@ -162,7 +143,7 @@ module _ {matrix : List ℕ} (f : File matrix) (answer : List ℕ) where
       let down = weighed-small (λ j. columnIn matrix j .weight) (λ j. lowersAt (columnIn matrix j) (nodeIn answer (columnIn matrix j))) weights (λ j. count-le 64 _) m in
       either-way Small (eqb (contentIn answer .n) n && eqb (contentIn answer .m) m) (omega (arith, up), omega (arith, down)) (lit≤ tt, lit≤ tt)
 
-  after : (n m : ℕ) → m ≤ 256 → (p : Passed) → By 6660 p → Small (afterAnswer matrix answer n m p)
+  after : (n m : ℕ) → m ≤ 256 → (p : Passed) → By Few 6660 p → Small (afterAnswer matrix answer n m p)
   after n m l (At here) b = taken-small n m l
   after n m l (Refused why) b = b
 
