@@ -39,6 +39,20 @@ module _ (k m : ℕ) where
   pub split-two : (cols : ℕ → Column) (S : ℕ) → S < 2 ^ k → 1 < count k S → 2 ≤ length (splitParts k m cols S)
   split-two cols S fits two = two-parts (split-parts k m cols S fits two) (omega arith) (λ P l. part-in k m cols S fits two l .2)
 
+  parts-length : {old : ℕ → Column} {S R : ℕ} {Ps : List ℕ} → Parts k m old S R Ps → ((P : ℕ) → List·Memᴰ P Ps → 0 < count k P) → length Ps ≤ count k R
+  parts-length done h = omega arith
+  parts-length (next {P = P} s p ps) h = omega (arith, h P (List·Memᴰ·head refl), parts-length ps (λ Q l. h Q (List·Memᴰ·tail l)), count-∖ k s)
+
+  beside : {old : ℕ → Column} {S R P : ℕ} {Ps : List ℕ} → Parts k m old S R Ps → ((Q : ℕ) → List·Memᴰ Q Ps → 0 < count k Q) → List·Memᴰ P Ps
+      → count k P + length Ps ≤ count k R + 1
+  beside (next s p ps) h (List·Memᴰ·head e) = rw e (omega (arith, parts-length ps (λ Q l. h Q (List·Memᴰ·tail l)), count-∖ k s))
+  beside (next {P = P} s p ps) h (List·Memᴰ·tail l) = omega (arith, beside ps (λ Q l. h Q (List·Memᴰ·tail l)) l, h P (List·Memᴰ·head refl), count-∖ k s)
+
+  -- Each part beside a part has a taxon of its own.
+  pub split-beside : (cols : ℕ → Column) (S : ℕ) → S < 2 ^ k → 1 < count k S → {P : ℕ} → List·Memᴰ P (splitParts k m cols S)
+      → count k P + length (splitParts k m cols S) ≤ count k S + 1
+  split-beside cols S fits two = beside (split-parts k m cols S fits two) (λ Q l. part-in k m cols S fits two l .1)
+
   walked-length : {old : ℕ → Column} {S R : ℕ} {Ps : List ℕ} → Parts k m old S R Ps
       → ((P : ℕ) → List·Memᴰ P Ps → (cols : ℕ → Column) → length (build k m cols P .groups) < count k P) → (cols : ℕ → Column)
       → length (walked (build k m) cols Ps .groups) + length Ps ≤ count k R

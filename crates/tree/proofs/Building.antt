@@ -13,7 +13,7 @@ use lib.Seq.{drop-at}
 use borrow.Author.Tests.{lt-ltb, le-ltb}
 use Rattle.taxa.specs.Sets.{_∩_, count, all}
 use Rattle.taxa.proofs.Members.{all-<, all-fits}
-use Rattle.taxa.proofs.Counts.{count-all}
+use Rattle.taxa.proofs.Counts.{count-le, count-all}
 use Rattle.record.specs.Bytes.{File, over}
 use Rattle.record.specs.Records.{refused}
 use Rattle.record.specs.declared.Refusal.{Refusal}
@@ -73,6 +73,10 @@ module _ {file : List ℕ} {n m space room : ℕ} (f : File file) (b : Buildable
         clear = rw (e, c) (cleared-twice (n * m) before);
       }
 
+  -- A list of 128 has room for twice the taxa.
+  pub list-room : (room : ℕ) → room ≡ 128 → 2 * count 64 (all n) ≤ room
+  list-room room long = omega (arith, count-le 64 (all n))
+
   few-groups : (cols : ℕ → Column) → length (build 64 m cols (all n) .groups) ≤ 63
   few-groups cols =
       let few = few-taxa f (b .taken) in
@@ -84,11 +88,11 @@ module _ {file : List ℕ} {n m space room : ℕ} (f : File file) (b : Buildable
 
   -- ---- what it comes to
 
-  module _ (ws os zs ws′ os′ zs′ os″ zs″ ts cs ts′ cs′ : List ℕ) {clear clear′ : List ℤ} (k : ℕ) (before : colsOf ws os zs ≡ file-columns) (start : colsOf ws′ os′ zs′ ≡ file-columns)
-      (sized : length ws′ ≡ m) (g : Grown ws′ os″ zs″ clear clear′ (build 64 (length ws′) (colsOf ws′ os′ zs′) (all n)) (groupsOf ts cs 0) (groupsOf ts′ cs′ k) 0 k) where
+  module _ (ws os zs ws′ os′ zs′ os″ zs″ ts cs ts′ cs′ : List ℕ) {clear clear′ : List ℤ} (S k : ℕ) (before : colsOf ws os zs ≡ file-columns) (start : colsOf ws′ os′ zs′ ≡ file-columns)
+      (sized : length ws′ ≡ m) (whole : S ≡ all n) (g : Grown ws′ os″ zs″ clear clear′ (build 64 (length ws′) (colsOf ws′ os′ zs′) S) (groupsOf ts cs 0) (groupsOf ts′ cs′ k) 0 k) where
     walked-groups : groupsOf ts′ cs′ k ≡ build 64 (length (M .columns)) file-columns (all (M .taxa)) .groups
     unfolding groupsOf
-    walked-groups = g .groups ∙ rw (sized, start, taken-count f (b .taken), taken-known f (b .taken))
+    walked-groups = g .groups ∙ rw (sized, start, whole, taken-count f (b .taken), taken-known f (b .taken))
 
     groups-are : ordered 64 n (groupsOf ts′ cs′ k) ≡ answer M .groups
     unfolding answer
@@ -98,7 +102,7 @@ module _ {file : List ℕ} {n m space room : ℕ} (f : File file) (b : Buildable
     unfolding answer
     flips-are =
         same-flips m ws ws′ os zs os″ zs″
-        ∙ rw (before, g .columns, sized, start, taken-count f (b .taken), taken-known f (b .taken))
+        ∙ rw (before, g .columns, sized, start, whole, taken-count f (b .taken), taken-known f (b .taken))
 
     pub built-content : contentWith n m (ordered 64 n (groupsOf ts′ cs′ k)) (flipList m (entries os zs) (entries os″ zs″)) ≡ contentFor M
     unfolding contentFor
@@ -107,7 +111,7 @@ module _ {file : List ℕ} {n m space room : ℕ} (f : File file) (b : Buildable
     pub to-write : length os ≡ m → length zs ≡ m → length os″ ≡ m → length zs″ ≡ m → length ts′ ≡ 63 → length cs′ ≡ 63 → Walked os zs os″ zs″ n m ts′ cs′ k
     unfolding answer
     to-write o z o″ z″ t c =
-        let few = rw (sized, start) at (g .many) in
+        let few = rw (sized, start, whole) at (g .many) in
         record {
           columns = few-columns f (b .taken);
           ones = omega arith;

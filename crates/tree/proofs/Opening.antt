@@ -2,7 +2,7 @@
 -- group (`grown-group`).
 use mathlib.Core.Path.{_≡_, sym, ap, _∙_}
 use mathlib.Core.List.{List, [], _∷_, _++_}
-use Prim.Native.Nat.{ℕ, _+_, _≤_, _<_}
+use Prim.Native.Nat.{ℕ, _+_, _*_, _≤_, _<_}
 use native.Mathlib.Omega.{arith}
 use lib.IntN.{ℤ}
 use lib.ListN.{length, take, drop, length-append, length-drop}
@@ -50,23 +50,23 @@ module _ {ws os zs os′ zs′ : List ℕ} {S n : ℕ} {space : List ℤ} {list 
   pub listed-fits : length list′ ≡ length list → k ≤ length list′
   listed-fits e = omega (arith, ap length (h .parts) ∙ length-append (splitParts 64 (length ws) cols S) (drop k list), h .many, length-drop k list)
 
-  pub parts-ready : (Ps : List ℕ) → Ps ≡ splitParts 64 (length ws) cols S → AllSmall Ps n (count 64 S)
-  parts-ready Ps e = rw e (parts-small (length ws) n cols S (r .taxa) (r .group) two)
+  pub parts-ready : (Ps : List ℕ) → Ps ≡ splitParts 64 (length ws) cols S → {room : ℕ} → 2 * count 64 S ≤ room + k → AllSmall Ps n (count 64 S) room
+  parts-ready Ps e {room} enough = rw e (parts-small (length ws) n cols S room (r .taxa) (r .group) two (omega (arith, h .many)))
 
   -- there is room for them,
-  pub parts-room : (at : ℕ) {walked-taxa paid walked′ paid′ : List ℕ} (Ps : List ℕ) → Ps ≡ splitParts 64 (length ws) cols S
+  pub parts-room : (at : ℕ) {next : ℕ} {walked-taxa paid walked′ paid′ : List ℕ} (Ps : List ℕ) → Ps ≡ splitParts 64 (length ws) cols S → next ≡ at + 1
       → Room (at + length (build 64 (length ws) cols S .groups)) walked-taxa paid → length walked′ ≡ length walked-taxa → length paid′ ≡ length paid
-      → Room (at + 1 + length (walked (build 64 (length ws)) (colsOf ws os′ zs′) Ps .groups)) walked′ paid′
-  parts-room at Ps e room t c =
+      → Room (next + length (walked (build 64 (length ws)) (colsOf ws os′ zs′) Ps .groups)) walked′ paid′
+  parts-room at Ps e one room t c =
       let n = node-length (length ws) cols (ready-wide r) two in
       rw (e, h .columns) (record { taxa-room = omega (arith, room .taxa-room); costs-room = omega (arith, room .costs-room) })
 
   -- and with what the walk over them comes to the group is whole.
-  pub grown-group : {os″ zs″ : List ℕ} {space′ space″ : List ℤ} {before mid new : List Group} {at end : ℕ} (Ps : List ℕ) → Ps ≡ splitParts 64 (length ws) cols S
-      → space′ ≡ space → mid ≡ before ++ (record { taxa = S; cost = cost } ∷ [])
-      → Grown ws os″ zs″ space′ space″ (walked (build 64 (length ws)) (colsOf ws os′ zs′) Ps) mid new (at + 1) end
+  pub grown-group : {os″ zs″ : List ℕ} {space′ space″ : List ℤ} {before mid new : List Group} {at next end : ℕ} (Ps : List ℕ) → Ps ≡ splitParts 64 (length ws) cols S
+      → next ≡ at + 1 → space′ ≡ space → mid ≡ before ++ (record { taxa = S; cost = cost } ∷ [])
+      → Grown ws os″ zs″ space′ space″ (walked (build 64 (length ws)) (colsOf ws os′ zs′) Ps) mid new next end
       → Grown ws os″ zs″ space space″ (build 64 (length ws) cols S) before new at end
-  grown-group Ps e same groups w = whole-group cols (colsOf ws os′ zs′) Ps (ready-wide r) two (h .columns) e (rw (groups, same, h .is-cost) at w)
+  grown-group Ps e one same groups w = whole-group cols (colsOf ws os′ zs′) Ps (ready-wide r) two (h .columns) e (rw (groups, same, one, h .is-cost) at w)
 
 -- Room for a group and all below it is room for the group.
 pub first-room : (at : ℕ) {ws os zs : List ℕ} {S n : ℕ} {space : List ℤ} {taxa costs : List ℕ} → Ready ws os zs S n space → 1 < count 64 S

@@ -2,18 +2,19 @@
 -- (`Going`); and a group, from its split and the walk over its parts (`one-taxon`, `whole-group`).
 use mathlib.Core.Path.{_≡_, refl, sym, ap, _∙_, subst}
 use mathlib.Core.List.{List, [], _∷_, _++_, append-assoc, append-nil, List·Memᴰ, List·Memᴰ·head, List·Memᴰ·tail}
-use Prim.Native.Nat.{ℕ, zero, suc, _+_, _*_, _^_, _≤_, _<_}
+use Prim.Native.Nat.{ℕ, zero, suc, _+_, _-_, _*_, _^_, _≤_, _<_}
 use native.Mathlib.Numerals.{add-one}
 use native.Mathlib.Omega.{arith}
 use lib.IntN.{ℤ}
-use lib.ListN.{length, getD, take, drop, length-append, drop-of-length-le}
+use lib.ListN.{length, getD, take, drop, length-append, length-drop, drop-of-length-le}
 use lib.Pow.{pow-mono}
-use lib.Seq.{drop-cons}
+use lib.Seq.{drop-cons, getD-take, length-take-le}
 use Rattle.taxa.specs.Sets.{count}
 use Rattle.taxa.proofs.Members.{⊆-≤}
 use Rattle.method.specs.Split.{Column, splitCost, after, splitParts}
 use Rattle.method.specs.Tree.{Group, Walk, leaf, walked, node, build}
 use Rattle.method.proofs.Depth.{build-leaf, build-node}
+use Rattle.method.proofs.Order.{split-two, split-beside}
 use Rattle.method.proofs.Parts.{inside-R}
 use Rattle.method.proofs.Splits.{split-parts, part-in}
 use Rattle.search.specs.Search.{colsOf}
@@ -97,13 +98,25 @@ getD-in [] i l = absurd (omega arith)
 getD-in (x ∷ xs) zero l = List·Memᴰ·head refl
 getD-in (x ∷ xs) (suc i) l = List·Memᴰ·tail (getD-in xs i (omega arith))
 
-pub parts-small : (m n : ℕ) (cols : ℕ → Column) (S : ℕ) → n ≤ 64 → S < 2 ^ n → 1 < count 64 S → AllSmall (splitParts 64 m cols S) n (count 64 S)
-parts-small m n cols S l fits two =
+-- Where a list has room for twice the group's taxa, there is room after the parts for twice those of any of them: there are two parts or more.
+pub parts-small : (m n : ℕ) (cols : ℕ → Column) (S room : ℕ) → n ≤ 64 → S < 2 ^ n → 1 < count 64 S → 2 * count 64 S ≤ room + length (splitParts 64 m cols S)
+    → AllSmall (splitParts 64 m cols S) n (count 64 S) room
+parts-small m n cols S room l fits two enough =
     let wide : S < 2 ^ 64 = omega (arith, pow-mono l) in
+    let Ps = splitParts 64 m cols S in
     record {
-      short = λ i b. omega (arith, ⊆-≤ (inside-R 64 m (after 64 m cols S) S (split-parts 64 m cols S wide two) (getD-in (splitParts 64 m cols S) i b)));
-      small = λ i b. part-in 64 m cols S wide two (getD-in (splitParts 64 m cols S) i b) .2;
+      short = λ i b. omega (arith, ⊆-≤ (inside-R 64 m (after 64 m cols S) S (split-parts 64 m cols S wide two) (getD-in Ps i b)));
+      small = λ i b. part-in 64 m cols S wide two (getD-in Ps i b) .2;
+      fits = λ i b. omega (arith, split-beside 64 m cols S wide two (getD-in Ps i b), split-two 64 m cols S wide two);
     }
+
+-- A part of which the list is not written over is read off it.
+pub still-listed : (k : ℕ) (list old : List ℕ) (i : ℕ) → take k list ≡ take k old → i < k → getD (take k old) i 0 ≡ getD list i 0
+still-listed k list old i e l = ap (λ (ps : List ℕ). getD ps i 0) (sym e) ∙ getD-take k list i 0 l
+
+-- What stands after the parts.
+pub rest-length : (k : ℕ) (list : List ℕ) → length (take (length list - k) (drop k list)) ≡ length list - k
+rest-length k list = length-take-le (length list - k) (drop k list) (omega (arith, length-drop k list))
 
 -- What the walk asks of each part.
 pub ready-part : {ws os zs os′ zs′ : List ℕ} {S P n : ℕ} {space space′ : List ℤ} → Ready ws os zs S n space → Parallel ws os′ zs′ → space′ ≡ space → P < 2 ^ n

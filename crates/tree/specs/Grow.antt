@@ -5,7 +5,7 @@ use Prim.Native.Nat.{ℕ, _+_, _*_, _^_, _≤_, _<_}
 use lib.IntN.{ℤ}
 use lib.ListN.{length, getD}
 use Rattle.taxa.specs.Sets.{count}
-use Rattle.method.specs.Tree.{Group, Walk, ordered, total}
+use Rattle.method.specs.Tree.{Group, Walk, build, walked, ordered, total}
 use Rattle.answer.specs.declared.Written.{Written}
 use Rattle.answer.specs.declared.Written.the-variants as written
 use Rattle.answer.specs.Content.{Content, fileOf}
@@ -26,6 +26,14 @@ pub record Ready (ws os zs : List ℕ) (S n : ℕ) (space : List ℤ) : Type 0 w
   pub places : n * length ws ≤ length space
   pub clear : cleared (n * length ws) space ≡ space
 
+-- The walk from a group, on columns in three lists,
+abbrev pub walkFrom : List ℕ → List ℕ → List ℕ → ℕ → Walk
+walkFrom ws os zs S = build 64 (length ws) (colsOf ws os zs) S
+
+-- and the walk over sets, one after the other.
+abbrev pub walkOver : List ℕ → List ℕ → List ℕ → List ℕ → Walk
+walkOver ws os zs Ps = walked (build 64 (length ws)) (colsOf ws os zs) Ps
+
 -- A walk was made: the columns are those that it leaves, its groups stand after those before, and the workspace is as it was.
 pub record Grown (ws os zs : List ℕ) (before after : List ℤ) (walk : Walk) (old new : List Group) (at end : ℕ) : Type 0 where
   pub columns : colsOf ws os zs ≡ walk .columns
@@ -34,10 +42,11 @@ pub record Grown (ws os zs : List ℕ) (before after : List ℤ) (walk : Walk) (
   pub many : end ≡ at + length (walk .groups)
   pub workspace : after ≡ before
 
--- Sets of taxa below n, each of fewer than bound.
-pub record AllSmall (Ps : List ℕ) (n bound : ℕ) : Type 0 where
+-- Sets of taxa below n, each of fewer than bound, and the lists of parts of all groups below one of them have room.
+pub record AllSmall (Ps : List ℕ) (n bound room : ℕ) : Type 0 where
   pub short : (i : ℕ) → i < length Ps → getD Ps i 0 < 2 ^ n
   pub small : (i : ℕ) → i < length Ps → count 64 (getD Ps i 0) < bound
+  pub fits : (i : ℕ) → i < length Ps → 2 * count 64 (getD Ps i 0) ≤ room
 
 -- What there is to write: m columns before and after, and k groups as walked, whose list in file order fits 63 places and whose total fits 4 bytes.
 pub record Walked (os zs os′ zs′ : List ℕ) (n m : ℕ) (walked paid : List ℕ) (k : ℕ) : Type 0 where

@@ -1,12 +1,10 @@
 // Building a group: it is split, and the walk over its parts builds each of them; the taxon count falls.
-ghost use mathlib.Core.Path.{_≡_};
-ghost use Prim.Native.Nat.{_+_, _≤_, _<_};
+// All lists of parts stand in one lent list: a group's first, those of the groups below it after them.
+ghost use Prim.Native.Nat.{_+_, _-_, _*_, _≤_, _<_};
 ghost use lib.ListN.{length, take};
 ghost use Rattle.taxa.specs.Sets.{count};
-ghost use Rattle.method.specs.Tree as method;
-ghost use Rattle.search.specs.Search.{colsOf};
 ghost use Rattle.tree.specs.Lists.{groupsOf, Room};
-ghost use Rattle.tree.specs.Grow.{Ready, Grown, AllSmall};
+ghost use Rattle.tree.specs.Grow.{Ready, Grown, AllSmall, walkFrom, walkOver};
 use super::order::put_group;
 use split::group::split_group;
 
@@ -18,19 +16,23 @@ pub fn grow(
     ws: &mut [i32],
     n: usize,
     group: u64,
+    list: &mut [u64],
     walked: &mut [u64],
     paid: &mut [u32],
     at: usize,
 ) -> usize
-    requires { ⌜ Ready (now weights) (now ones) (now zeros) group n (now ws) × Room (at + length (method.build 64 (length (now weights)) (colsOf (now weights) (now ones) (now zeros)) group .groups)) (now walked) (now paid) ⌝ }
-    ensures { λ r. ⌜ Grown (now (weights .entry)) (now (ones .exit)) (now (zeros .exit)) (now (ws .entry)) (now (ws .exit)) (method.build 64 (length (now (weights .entry))) (colsOf (now (weights .entry)) (now (ones .entry)) (now (zeros .entry))) group) (groupsOf (now (walked .entry)) (now (paid .entry)) at) (groupsOf (now (walked .exit)) (now (paid .exit)) r) at r ⌝ }
+    requires { ⌜ Ready (now weights) (now ones) (now zeros) group n (now ws) × (2 * count 64 group ≤ length (now list)) ⌝ }
+    requires { ⌜ Room (at + length (walkFrom (now weights) (now ones) (now zeros) group .groups)) (now walked) (now paid) ⌝ }
+    ensures { λ r. ⌜
+        Grown (now (weights .entry)) (now (ones .exit)) (now (zeros .exit)) (now (ws .entry)) (now (ws .exit))
+        (walkFrom (now (weights .entry)) (now (ones .entry)) (now (zeros .entry)) group)
+        (groupsOf (now (walked .entry)) (now (paid .entry)) at) (groupsOf (now (walked .exit)) (now (paid .exit)) r) at r ⌝ }
 {
     let size = taxa::size(group);
     if size < 2 {
         return at;
     }
-    let mut list = [0u64; 64];
-    let handed = split_group(weights, ones, zeros, group, n, ws, &mut list);
+    let handed = split_group(weights, ones, zeros, group, n, ws, list);
     let next = put_group(true, walked, paid, at, group, handed.cost);
     walk(
         weights,
@@ -38,7 +40,7 @@ pub fn grow(
         zeros,
         ws,
         n,
-        &list,
+        list,
         handed.number,
         size,
         walked,
@@ -54,20 +56,36 @@ fn walk(
     zeros: &mut [u64],
     ws: &mut [i32],
     n: usize,
-    list: &[u64],
+    list: &mut [u64],
     k: usize,
     bound: u32,
     walked: &mut [u64],
     paid: &mut [u32],
     at: usize,
 ) -> usize
-    requires { ⌜ AllSmall (take k (now list)) n bound × (k ≤ length (now list)) × (0 < bound) ⌝ }
-    requires { ⌜ Ready (now weights) (now ones) (now zeros) 0 n (now ws) × Room (at + length (method.walked (method.build 64 (length (now weights))) (colsOf (now weights) (now ones) (now zeros)) (take k (now list)) .groups)) (now walked) (now paid) ⌝ }
-    ensures { λ r. ⌜ Grown (now (weights .entry)) (now (ones .exit)) (now (zeros .exit)) (now (ws .entry)) (now (ws .exit)) (method.walked (method.build 64 (length (now (weights .entry)))) (colsOf (now (weights .entry)) (now (ones .entry)) (now (zeros .entry))) (take k (now (list .entry)))) (groupsOf (now (walked .entry)) (now (paid .entry)) at) (groupsOf (now (walked .exit)) (now (paid .exit)) r) at r ⌝ }
+    requires { ⌜ AllSmall (take k (now list)) n bound (length (now list) - k) × (k ≤ length (now list)) × (0 < bound) ⌝ }
+    requires { ⌜ Ready (now weights) (now ones) (now zeros) 0 n (now ws) ⌝ }
+    requires { ⌜ Room (at + length (walkOver (now weights) (now ones) (now zeros) (take k (now list)) .groups)) (now walked) (now paid) ⌝ }
+    ensures { λ r. ⌜
+        Grown (now (weights .entry)) (now (ones .exit)) (now (zeros .exit)) (now (ws .entry)) (now (ws .exit))
+        (walkOver (now (weights .entry)) (now (ones .entry)) (now (zeros .entry)) (take k (now (list .entry))))
+        (groupsOf (now (walked .entry)) (now (paid .entry)) at) (groupsOf (now (walked .exit)) (now (paid .exit)) r) at r ⌝ }
 {
     let mut end = at;
     for i in 0usize..k {
-        end = grow(weights, ones, zeros, ws, n, list[i], walked, paid, end);
+        let part = list[i];
+        end = grow(
+            weights,
+            ones,
+            zeros,
+            ws,
+            n,
+            part,
+            &mut list[k..],
+            walked,
+            paid,
+            end,
+        );
     }
     end
 }

@@ -99,6 +99,7 @@ fn build_loaded(
     columns::load(file, weights, after, off);
     let size = n as usize * m as usize;
     net::clear(workspace, size);
+    let mut list = [0u64; 128];
     let mut walked = [0u64; 63];
     let mut paid = [0u32; 63];
     let k = grow::grow(
@@ -108,6 +109,7 @@ fn build_loaded(
         workspace,
         n as usize,
         taxa::all(n as u32),
+        &mut list,
         &mut walked,
         &mut paid,
         0,

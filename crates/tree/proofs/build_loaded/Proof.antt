@@ -4,107 +4,108 @@ use native.Mathlib.Omega.{arith}
 use mathlib.Core.Path.{_≡_, refl, sym, _∙_}
 use Rattle.record.specs.Bytes.{File}
 use Rattle.split.proofs.Soundness.{can-load, few-pairs, few-taxa}
-use Rattle.tree.proofs.Building.{grow-ready, grow-room, to-write, built-content, answers-all}
+use Rattle.tree.proofs.Building.{grow-ready, list-room, grow-room, to-write, built-content, answers-all}
 use Rattle.tree.proofs.build_loaded.Statement.{statement}
 use Rattle.tree.proofs.build_loaded.Tie as tie
 
+-- ---- the way back from each call to the one before it
+
+abbrev begun : tie.After-load-arg3 → tie.Start
+begun c = c .before .before .before .before .before .before .before .before .before .before
+
+abbrev loaded : tie.After-load-arg6 → tie.After-load
+loaded c = c .before .before .before .before .before .before .before .before .before
+
+abbrev loaded-again : tie.After-clear-arg → tie.After-load2
+loaded-again c = c .before .before .before .before .before .before .before
+
+abbrev cleared : tie.After-paid → tie.After-clear
+cleared c = c .before .before .before .before .before .before .before .before .before
+
+abbrev walked : tie.After-write-answer-arg5 → tie.After-grow
+walked c = c .before .before .before .before .before .before .before .before .before .before .before .before .before .before .before
+
 -- The file is one of bytes.
-bytes : (c : tie.After-shared-slice-known) → File (c .before .args .file .now)
-bytes c = record { byte = λ i. omega (arith, c .shared-slice-known .given i) }
+bytes : (c : tie.After-load-arg3) → File (begun c .args .file .now)
+bytes c = record { byte = λ i. omega (arith, c .before .before .before .before .before .before .before .before .before .shared-slice-known .given i) }
+
+-- ---- what the calls ask for
 
 load-requires : tie.Need-load-requires
 load-requires c κs =
-    let (b, s) = c .before .before .before .before .before .before .before .before .before .before .pre in
-    let fits = can-load (bytes (c .before .before .before .before .before .before .before .before .before)) (b .taken) (s .weights-all) in
+    let (b, s) = begun c .pre in
+    let fits = can-load (bytes c) (b .taken) (s .weights-all) in
     (record { ones = s .ones-all ∙ sym (s .weights-all); zeros = s .zeros-all ∙ sym (s .weights-all) }, fits .0, fits .1)
 
 load-requires-2 : tie.Need-load-requires-2
 load-requires-2 c κs =
-    let (b, s) = c .before .before .before .before .before .before .before .before .before .before .before .before .before .before .before .before .before .before .before .before .pre in
-    let long = c .before .before .before .before .before .before .before .before .before .load .ensures .2 ∙ s .weights-all in
-    let fits = can-load (bytes (c .before .before .before .before .before .before .before .before .before .before .before .before .before .before .before .before .before .before .before)) (b .taken) long in
+    let (b, s) = begun (loaded c .before) .pre in
+    let long = loaded c .load .ensures .2 ∙ s .weights-all in
+    let fits = can-load (bytes (loaded c .before)) (b .taken) long in
     (record { ones = s .after-all ∙ sym long; zeros = s .off-all ∙ sym long }, fits .0, fits .1)
 
 mul-size : tie.Need-mul-size
-mul-size c = omega (arith, few-pairs (bytes (c .before .before .before .before .before .before .before .before .before .before .before .before .before .before .before .before .before .before .before .before .before .before .before .before .before .before)) (c .before .before .before .before .before .before .before .before .before .before .before .before .before .before .before .before .before .before .before .before .before .before .before .before .before .before .before .pre .0 .taken))
-
-clear-requires : tie.Need-clear-requires
-clear-requires c κs = search needs
+mul-size c =
+    let first = loaded (c .before .before .before .before .before .before .before) .before in
+    omega (arith, few-pairs (bytes first) (begun first .pre .0 .taken))
 
 all-requires : tie.Need-all-requires
-all-requires c κs = few-taxa (bytes (c .before .before .before .before .before .before .before .before .before .before .before .before .before .before .before .before .before .before .before .before .before .before .before .before .before .before .before .before .before .before .before .before .before)) (c .before .before .before .before .before .before .before .before .before .before .before .before .before .before .before .before .before .before .before .before .before .before .before .before .before .before .before .before .before .before .before .before .before .before .pre .0 .taken)
-
-slice-aggregate-grow : tie.Need-slice-aggregate-grow
-slice-aggregate-grow c = search needs
-
-slice-aggregate-grow-2 : tie.Need-slice-aggregate-grow-2
-slice-aggregate-grow-2 c = search needs
+all-requires c κs =
+    let clear = c .before .before .before .before .before in
+    let first = loaded (loaded-again (clear .before) .before) .before in
+    few-taxa (bytes first) (begun first .pre .0 .taken)
 
 grow-requires : tie.Need-grow-requires
 grow-requires c κs =
-    let (b, s) = c .before .before .before .before .before .before .before .before .before .before .before .before .before .before .before .before .before .before .before .before .before .before .before .before .before .before .before .before .before .before .before .before .before .before .before .before .before .pre in
-    let f = bytes (c .before .before .before .before .before .before .before .before .before .before .before .before .before .before .before .before .before .before .before .before .before .before .before .before .before .before .before .before .before .before .before .before .before .before .before .before) in
-    let loaded = c .before .before .before .before .before .before .before .before .before .before .before .before .before .before .before .before .load2 .ensures in
-    let long = loaded .2 ∙ c .before .before .before .before .before .before .before .before .before .before .before .before .before .before .before .before .before .before .before .before .before .before .before .before .before .before .load .ensures .2 ∙ s .weights-all in
-    rw (c .before .before .all .ensures)
-    (grow-ready f b _ (loaded .1) long (c .before .before .before .before .before .before .before .before .clear .ensures) (c .before .before .before .before .before .before .before .before .clear .kept .0), grow-room f b (c .before .before .before .before .before .before .before .before .before .before .before .before .before .before .before .before .load2 .last .1 .0) (c .before .before .before .before .before .before .before .before .before .before .before .before .before .before .before .before .load2 .last .1 .1 .0) (c .before .before .before .before .before .before .before .before .before .before .before .before .before .before .before .before .load2 .last .1 .1 .1 .0) long (search needs) (search needs))
-
-slice-aggregate-write-answer : tie.Need-slice-aggregate-write-answer
-slice-aggregate-write-answer c = search needs
-
-slice-aggregate-write-answer-2 : tie.Need-slice-aggregate-write-answer-2
-slice-aggregate-write-answer-2 c = search needs
+    let clear = cleared c .clear in
+    let again = loaded-again (cleared c .before) in
+    let load = loaded (again .before) in
+    let (b, s) = begun (load .before) .pre in
+    let f = bytes (load .before) in
+    let long = again .load2 .ensures .2 ∙ load .load .ensures .2 ∙ s .weights-all in
+    rw (c .before .before .before .all .ensures) (
+      (grow-ready f b _ (again .load2 .ensures .1) long (clear .ensures) (clear .kept .0), list-room f b _ (search needs)),
+      grow-room f b (again .load2 .last .1 .0) (again .load2 .last .1 .1 .0) (again .load2 .last .1 .1 .1 .0) long (search needs) (search needs),
+    )
 
 write-answer-requires : tie.Need-write-answer-requires
 write-answer-requires c κs =
-    let (b, s) = c .before .before .before .before .before .before .before .before .before .before .before .before .before .before .before .before .before .before .before .before .before .before .before .before .before .before .before .before .before .before .before .before .before .before .before .before .before .before .before .before .before .before .before .before .before .before .before .before .before .before .before .before .pre in
-    let f = bytes (c .before .before .before .before .before .before .before .before .before .before .before .before .before .before .before .before .before .before .before .before .before .before .before .before .before .before .before .before .before .before .before .before .before .before .before .before .before .before .before .before .before .before .before .before .before .before .before .before .before .before .before) in
-    let load = c .before .before .before .before .before .before .before .before .before .before .before .before .before .before .before .before .before .before .before .before .before .before .before .before .before .before .before .before .before .before .before .before .before .before .before .before .before .before .before .before .before .load in
-    let again = c .before .before .before .before .before .before .before .before .before .before .before .before .before .before .before .before .before .before .before .before .before .before .before .before .before .before .before .before .before .before .before .load2 in
-    let walk = c .before .before .before .before .before .before .before .before .before .before .before .before .before .before .grow in
-    let long = again .ensures .2 ∙ load .ensures .2 ∙ s .weights-all in
-    let grown = rw (c .before .before .before .before .before .before .before .before .before .before .before .before .before .before .before .before .before .all .ensures) at (walk .ensures) in
-    to-write f b _ _ _ _ _ _ _ _ _ _ _ _ _ (load .ensures .0) (again .ensures .0) long grown
-    (load .kept .1 .1 .0 ∙ s .ones-all)
-    (load .kept .1 .1 .1 .0 ∙ s .zeros-all)
-    (walk .kept .1 .0 ∙ again .kept .1 .1 .0 ∙ s .after-all)
-    (walk .kept .1 .1 .0 ∙ again .kept .1 .1 .1 .0 ∙ s .off-all)
-    (walk .kept .1 .1 .1 .1 .1 .1 .0)
+    let walk = walked c .grow in
+    let again = loaded-again (cleared (walked c .before) .before) in
+    let load = loaded (again .before) in
+    let (b, s) = begun (load .before) .pre in
+    let f = bytes (load .before) in
+    let long = again .load2 .ensures .2 ∙ load .load .ensures .2 ∙ s .weights-all in
+    to-write f b _ _ _ _ _ _ _ _ _ _ _ _ _ _ (load .load .ensures .0) (again .load2 .ensures .0) long (walked c .before .before .before .before .all .ensures) (walk .ensures)
+    (load .load .kept .1 .1 .0 ∙ s .ones-all)
+    (load .load .kept .1 .1 .1 .0 ∙ s .zeros-all)
+    (walk .kept .1 .0 ∙ again .load2 .kept .1 .1 .0 ∙ s .after-all)
+    (walk .kept .1 .1 .0 ∙ again .load2 .kept .1 .1 .1 .0 ∙ s .off-all)
     (walk .kept .1 .1 .1 .1 .1 .1 .1 .0)
+    (walk .kept .1 .1 .1 .1 .1 .1 .1 .1 .0)
 
-same-length : tie.Need-same-length
-same-length c = c .before .before .before .before .before .before .before .before .before .before .before .before .before .before .before .before .before .before .before .before .before .before .before .before .before .before .before .before .before .before .before .before .before .before .load2 .kept .1 .0 ∙ c .before .before .before .before .before .before .before .before .before .before .before .before .before .before .before .before .before .before .before .before .before .before .before .before .before .before .before .before .before .before .before .before .before .before .before .before .before .before .before .before .before .before .before .before .load .kept .1 .0
+-- ---- what comes back
 
-same-length-2 : tie.Need-same-length-2
-same-length-2 c = c .before .before .before .before .before .before .before .before .before .before .before .before .before .before .before .before .before .before .before .before .before .before .before .before .before .before .before .before .before .before .before .before .before .before .before .before .before .before .before .before .before .before .before .before .load .kept .1 .1 .0
+abbrev end-walk : tie.After-slice-known15 → tie.After-grow
+end-walk c = walked (c .before .before .before)
 
-same-length-3 : tie.Need-same-length-3
-same-length-3 c = c .before .before .before .before .before .before .before .before .before .before .before .before .before .before .before .before .before .before .before .before .before .before .before .before .before .before .before .before .before .before .before .before .before .before .before .before .before .before .before .before .before .before .before .before .load .kept .1 .1 .1 .0
+abbrev end-again : tie.After-slice-known15 → tie.After-load2
+end-again c = loaded-again (cleared (end-walk c .before) .before)
 
-same-length-4 : tie.Need-same-length-4
-same-length-4 c = c .before .before .before .before .before .before .before .before .before .before .before .before .before .before .before .before .before .grow .kept .1 .0 ∙ c .before .before .before .before .before .before .before .before .before .before .before .before .before .before .before .before .before .before .before .before .before .before .before .before .before .before .before .before .before .before .before .before .before .before .load2 .kept .1 .1 .0
-
-same-length-5 : tie.Need-same-length-5
-same-length-5 c = search needs
-
-same-length-6 : tie.Need-same-length-6
-same-length-6 c = search needs
-
-same-length-7 : tie.Need-same-length-7
-same-length-7 c = search needs
+abbrev end-load : tie.After-slice-known15 → tie.After-load
+end-load c = loaded (end-again c .before)
 
 returns : tie.Need-returns
 returns c =
-    let (b, s) = c .before .before .before .before .before .before .before .before .before .before .before .before .before .before .before .before .before .before .before .before .before .before .before .before .before .before .before .before .before .before .before .before .before .before .before .before .before .before .before .before .before .before .before .before .before .before .before .before .before .before .before .before .before .before .before .pre in
-    let f = bytes (c .before .before .before .before .before .before .before .before .before .before .before .before .before .before .before .before .before .before .before .before .before .before .before .before .before .before .before .before .before .before .before .before .before .before .before .before .before .before .before .before .before .before .before .before .before .before .before .before .before .before .before .before .before .before) in
-    let load = c .before .before .before .before .before .before .before .before .before .before .before .before .before .before .before .before .before .before .before .before .before .before .before .before .before .before .before .before .before .before .before .before .before .before .before .before .before .before .before .before .before .before .before .before .load in
-    let again = c .before .before .before .before .before .before .before .before .before .before .before .before .before .before .before .before .before .before .before .before .before .before .before .before .before .before .before .before .before .before .before .before .before .before .load2 in
-    let walk = c .before .before .before .before .before .before .before .before .before .before .before .before .before .before .before .before .before .grow in
+    let walk = end-walk c in
+    let again = end-again c .load2 in
+    let load = end-load c .load in
+    let (b, s) = begun (end-load c .before) .pre in
+    let f = bytes (end-load c .before) in
     let long = again .ensures .2 ∙ load .ensures .2 ∙ s .weights-all in
-    let grown = rw (c .before .before .before .before .before .before .before .before .before .before .before .before .before .before .before .before .before .before .before .before .all .ensures) at (walk .ensures) in
-    let content = built-content f b _ _ _ _ _ _ _ _ _ _ _ _ _ (load .ensures .0) (again .ensures .0) long grown in
+    let content = built-content f b _ _ _ _ _ _ _ _ _ _ _ _ _ _ (load .ensures .0) (again .ensures .0) long (walk .before .before .before .before .all .ensures) (walk .grow .ensures) in
     let (taken, output) = answers-all f b content refl (c .before .before .write-answer .ensures) in
-    (taken, output, grown .workspace ∙ c .before .before .before .before .before .before .before .before .before .before .before .before .before .before .before .before .before .before .before .before .before .before .before .before .before .before .clear .ensures)
+    (taken, output, walk .grow .ensures .workspace ∙ cleared (walk .before) .clear .ensures)
 
 pub build-loaded-spec : {M : Type 1} → statement M
 build-loaded-spec =
@@ -113,19 +114,20 @@ build-loaded-spec =
     load-requires
     load-requires-2
     mul-size
-    clear-requires
+    (λ c κs. search needs)
     all-requires
-    slice-aggregate-grow
-    slice-aggregate-grow-2
+    (λ c. search needs)
+    (λ c. search needs)
+    (λ c. search needs)
     grow-requires
-    slice-aggregate-write-answer
-    slice-aggregate-write-answer-2
+    (λ c. search needs)
+    (λ c. search needs)
     write-answer-requires
-    same-length
-    same-length-2
-    same-length-3
-    same-length-4
-    same-length-5
-    same-length-6
-    same-length-7
+    (λ c. end-again c .load2 .kept .1 .0 ∙ end-load c .load .kept .1 .0)
+    (λ c. end-load c .load .kept .1 .1 .0)
+    (λ c. end-load c .load .kept .1 .1 .1 .0)
+    (λ c. end-walk c .grow .kept .1 .0 ∙ end-again c .load2 .kept .1 .1 .0)
+    (λ c. end-walk c .grow .kept .1 .1 .0 ∙ end-again c .load2 .kept .1 .1 .1 .0)
+    (λ c. search needs)
+    (λ c. search needs)
     returns)

@@ -6,14 +6,15 @@ use native.Mathlib.Omega.{arith}
 use mathlib.Core.Path.{_≡_, refl, sym, ap, _∙_}
 use lib.ListN.{length, take}
 use lib.Pow.{pow-pos}
-use lib.Seq.{length-take-le, getD-take}
+use lib.Seq.{length-take-le}
+use borrow.Rule.Slice.PartMut.{take-put}
 use Rattle.taxa.specs.Sets.{count}
 use Rattle.taxa.proofs.Counts.{count-le}
 use Rattle.method.specs.Tree.{build, walked}
 use Rattle.search.specs.Search.{colsOf}
 use Rattle.split.specs.Columns.{Parallel}
 use Rattle.tree.specs.Lists.{groupsOf, Room}
-use Rattle.tree.proofs.Walking.{Going, going-start, going-room, going-next, going-end, one-taxon, ready-part, ready-wide}
+use Rattle.tree.proofs.Walking.{Going, going-start, going-room, going-next, going-end, one-taxon, still-listed, rest-length, ready-part, ready-wide}
 use Rattle.tree.proofs.Opening.{search-given, listed-parts, listed-fits, parts-ready, parts-room, grown-group, first-room}
 use borrow.Fn.Kinds.{In}
 use borrow.Fn.PlainCycle.{Measures, is, falls, and}
@@ -29,416 +30,192 @@ use Rattle.tree.proofs.order.put_group.Reads as put-group-reads
 use Rattle.tree.proofs.grow.+grow+walk.{statement}
 use Rattle.tree.proofs.grow.+grow+walk.Tie.{close}
 
-abbrev μ-grow : Measures 6 grow-kinds.ps ℕ
+abbrev μ-grow : Measures 7 grow-kinds.ps ℕ
 μ-grow κs a = 2 * count 64 (a .1 .1 .1 .1 .1 .0) + 1
 
 abbrev μ-walk : Measures 7 walk-kinds.ps ℕ
 μ-walk κs a = 2 * a .1 .1 .1 .1 .1 .1 .1 .0
 
-abbrev grow-at : ℕ → In 6 grow-kinds.ps
-grow-at t = and 6 grow-kinds.ps (is 6 grow-kinds.ps μ-grow t) grow.Pre
+abbrev Inv : walk-lts.InvT-loop
+Inv weights ones₀ zeros₀ ws₀ n list₀ k bound walked₀ paid₀ at end₀ i₀ ones zeros ws list found paid end i =
+    (i ≤ k) × Parallel weights ones zeros × (ws ≡ ws₀) × (length list ≡ length list₀) × (take k list ≡ take k list₀) × (length found ≡ length walked₀) × (length paid ≡ length paid₀)
+    × Going (build 64 (length weights)) (take k list₀) (colsOf weights ones₀ zeros₀) (colsOf weights ones zeros) (groupsOf walked₀ paid₀ at) (groupsOf found paid end) at end i
 
-abbrev grow-below : ℕ → In 6 grow-kinds.ps
-grow-below t = and 6 grow-kinds.ps (falls 6 grow-kinds.ps _<_ μ-grow t) grow.Pre
+abbrev μ-loop : walk-lts.MeasureT-loop
+μ-loop weights ones₀ zeros₀ ws₀ n list₀ k bound walked₀ paid₀ at end₀ i₀ ones zeros ws list found paid end i = k - i
 
-abbrev walk-at : ℕ → In 7 walk-kinds.ps
-walk-at t = and 7 walk-kinds.ps (is 7 walk-kinds.ps μ-walk t) walk.Pre
+module _ (t : ℕ) where
+  abbrev grow-at : In 7 grow-kinds.ps
+  grow-at = and 7 grow-kinds.ps (is 7 grow-kinds.ps μ-grow t) grow.Pre
 
-abbrev walk-below : ℕ → In 7 walk-kinds.ps
-walk-below t = and 7 walk-kinds.ps (falls 7 walk-kinds.ps _<_ μ-walk t) walk.Pre
+  abbrev grow-below : In 7 grow-kinds.ps
+  grow-below = and 7 grow-kinds.ps (falls 7 grow-kinds.ps _<_ μ-grow t) grow.Pre
 
--- The test of the size was passed: there are two taxa or more.
-more : {t : ℕ} (c : grow-lts.Else1 (
-  size-reads.Asked,
-  size-reads.Learnt,
-  split-group-reads.Asked,
-  split-group-reads.Learnt,
-  put-group-reads.Asked,
-  put-group-reads.Learnt,
-  walk-below t,
-  walk.Post,
-) (grow-at t) grow.Post) → 1 < count 64 (c .before .before .before .before .before .before .before .args .group)
-more c = omega (arith, c .before .size .ensures)
+  abbrev walk-at : In 7 walk-kinds.ps
+  walk-at = and 7 walk-kinds.ps (is 7 walk-kinds.ps μ-walk t) walk.Pre
 
-grow-size-requires : (t : ℕ) → grow-lts.Need-size-requires (
-  size-reads.Asked,
-  size-reads.Learnt,
-  split-group-reads.Asked,
-  split-group-reads.Learnt,
-  put-group-reads.Asked,
-  put-group-reads.Learnt,
-  walk-below t,
-  walk.Post,
-) (grow-at t) grow.Post
-grow-size-requires t c κs = search needs
+  abbrev walk-below : In 7 walk-kinds.ps
+  walk-below = and 7 walk-kinds.ps (falls 7 walk-kinds.ps _<_ μ-walk t) walk.Pre
 
-grow-returns : (t : ℕ) → grow-lts.Need-returns (
-  size-reads.Asked,
-  size-reads.Learnt,
-  split-group-reads.Asked,
-  split-group-reads.Learnt,
-  put-group-reads.Asked,
-  put-group-reads.Learnt,
-  walk-below t,
-  walk.Post,
-) (grow-at t) grow.Post
-grow-returns t c =
-    let p = c .before .before .before .before .before .before .before .pre .1 in
-    one-taxon (p .0 .parallel) (ready-wide (p .0)) (omega (arith, c .before .size .ensures))
+  abbrev grow-calls : grow-lts.Claims
+  grow-calls = (size-reads.Asked, size-reads.Learnt, split-group-reads.Asked, split-group-reads.Learnt, put-group-reads.Asked, put-group-reads.Learnt, walk-below, walk.Post)
 
-grow-slice-aggregate-split-group : (t : ℕ) → grow-lts.Need-slice-aggregate-split-group (
-  size-reads.Asked,
-  size-reads.Learnt,
-  split-group-reads.Asked,
-  split-group-reads.Learnt,
-  put-group-reads.Asked,
-  put-group-reads.Learnt,
-  walk-below t,
-  walk.Post,
-) (grow-at t) grow.Post
-grow-slice-aggregate-split-group t c = search needs
+  abbrev walk-calls : walk-lts.Claims
+  walk-calls = (grow-below, grow.Post)
 
-grow-split-group-requires : (t : ℕ) → grow-lts.Need-split-group-requires (
-  size-reads.Asked,
-  size-reads.Learnt,
-  split-group-reads.Asked,
-  split-group-reads.Learnt,
-  put-group-reads.Asked,
-  put-group-reads.Learnt,
-  walk-below t,
-  walk.Post,
-) (grow-at t) grow.Post
-grow-split-group-requires t c κs =
-    let p = c .before .before .before .before .before .before .before .before .before .before .before .pre .1 .0 in
-    (search-given p (more (c .before .before .before .before)), p .parallel, p .places, count-le 64 _)
+  -- ---- grow: the way back from a call to what was known before it
 
-grow-put-group-requires : (t : ℕ) → grow-lts.Need-put-group-requires (
-  size-reads.Asked,
-  size-reads.Learnt,
-  split-group-reads.Asked,
-  split-group-reads.Learnt,
-  put-group-reads.Asked,
-  put-group-reads.Learnt,
-  walk-below t,
-  walk.Post,
-) (grow-at t) grow.Post
-grow-put-group-requires t c κs = λ e.
-    let p = c .before .before .before .before .before .before .before .before .before .before .before .before .before .before .before .before .before .before .before .before .pre .1 in
-    let room = first-room _ (p .0) (more (c .before .before .before .before .before .before .before .before .before .before .before .before .before)) (p .1) in
-    (omega (arith, room .taxa-room), omega (arith, room .costs-room))
+  abbrev opened : grow-lts.Else1 grow-calls grow-at grow.Post → grow-lts.Start grow-calls grow-at grow.Post
+  opened c = c .before .before .before .before .before .before .before .before
 
-grow-slice-aggregate-walk : (t : ℕ) → grow-lts.Need-slice-aggregate-walk (
-  size-reads.Asked,
-  size-reads.Learnt,
-  split-group-reads.Asked,
-  split-group-reads.Learnt,
-  put-group-reads.Asked,
-  put-group-reads.Learnt,
-  walk-below t,
-  walk.Post,
-) (grow-at t) grow.Post
-grow-slice-aggregate-walk t c = search needs
+  abbrev tested : grow-lts.After-split-group-arg4 grow-calls grow-at grow.Post → grow-lts.Else1 grow-calls grow-at grow.Post
+  tested c = c .before .before .before .before
 
-grow-walk-requires : (t : ℕ) → grow-lts.Need-walk-requires (
-  size-reads.Asked,
-  size-reads.Learnt,
-  split-group-reads.Asked,
-  split-group-reads.Learnt,
-  put-group-reads.Asked,
-  put-group-reads.Learnt,
-  walk-below t,
-  walk.Post,
-) (grow-at t) grow.Post
-grow-walk-requires t c κs =
-    let p = c .before .before .before .before .before .before .before .before .before .before .before .before .before .before .before .before .before .before .before .before .before .before .before .before .before .before .before .before .before .before .before .pre in
-    let handed = c .before .before .before .before .before .before .before .before .before .before .before .before .before .before .before .before .before .before .before .split-group .ensures in
-    let two = more (c .before .before .before .before .before .before .before .before .before .before .before .before .before .before .before .before .before .before .before .before .before .before .before .before) in
-    let ps = listed-parts (p .1 .0) two (handed .0) in
-    let size = c .before .before .before .before .before .before .before .before .before .before .before .before .before .before .before .before .before .before .before .before .before .before .before .before .before .size .ensures in (
-      omega (arith, p .0),
-      (
-        (rw size (parts-ready (p .1 .0) two (handed .0) _ ps), listed-fits (p .1 .0) two (handed .0) (search needs), omega arith),
-        (ready-part (p .1 .0) (handed .0 .parallel) (handed .1 ∙ p .1 .0 .clear) (pow-pos _), rw (c .before .before .before .before .before .before .before .before .before .before .put-group .ensures .0) (parts-room (p .1 .0) two (handed .0) _ _ ps (p .1 .1) (search needs) (search needs))),
-      ),
-    )
+  abbrev divided : grow-lts.After-put-group-arg2 grow-calls grow-at grow.Post → grow-lts.After-split-group grow-calls grow-at grow.Post
+  divided c = c .before .before .before .before .before .before .before .before .before
 
-grow-same-length : (t : ℕ) → grow-lts.Need-same-length (
-  size-reads.Asked,
-  size-reads.Learnt,
-  split-group-reads.Asked,
-  split-group-reads.Learnt,
-  put-group-reads.Asked,
-  put-group-reads.Learnt,
-  walk-below t,
-  walk.Post,
-) (grow-at t) grow.Post
-grow-same-length t c = search needs
+  abbrev noted : grow-lts.After-walk-arg6 grow-calls grow-at grow.Post → grow-lts.After-put-group grow-calls grow-at grow.Post
+  noted c = c .before .before .before .before .before .before .before .before .before .before
 
-grow-same-length-2 : (t : ℕ) → grow-lts.Need-same-length-2 (
-  size-reads.Asked,
-  size-reads.Learnt,
-  split-group-reads.Asked,
-  split-group-reads.Learnt,
-  put-group-reads.Asked,
-  put-group-reads.Learnt,
-  walk-below t,
-  walk.Post,
-) (grow-at t) grow.Post
-grow-same-length-2 t c = search needs
+  abbrev gone-over : grow-lts.After-slice-known15 grow-calls grow-at grow.Post → grow-lts.After-walk grow-calls grow-at grow.Post
+  gone-over c = c .before .before .before .before .before .before .before .before .before .before .before
 
-grow-same-length-3 : (t : ℕ) → grow-lts.Need-same-length-3 (
-  size-reads.Asked,
-  size-reads.Learnt,
-  split-group-reads.Asked,
-  split-group-reads.Learnt,
-  put-group-reads.Asked,
-  put-group-reads.Learnt,
-  walk-below t,
-  walk.Post,
-) (grow-at t) grow.Post
-grow-same-length-3 t c = search needs
+  -- The test of the size was passed: there are two taxa or more.
+  more : (c : grow-lts.Else1 grow-calls grow-at grow.Post) → 1 < count 64 (opened c .args .group)
+  more c = omega (arith, c .before .size .ensures)
 
-grow-same-length-4 : (t : ℕ) → grow-lts.Need-same-length-4 (
-  size-reads.Asked,
-  size-reads.Learnt,
-  split-group-reads.Asked,
-  split-group-reads.Learnt,
-  put-group-reads.Asked,
-  put-group-reads.Learnt,
-  walk-below t,
-  walk.Post,
-) (grow-at t) grow.Post
-grow-same-length-4 t c = search needs
+  grow-returns : grow-lts.Need-returns grow-calls grow-at grow.Post
+  grow-returns c =
+      let ready = c .before .before .before .before .before .before .before .before .pre .1 .0 .0 in
+      one-taxon (ready .parallel) (ready-wide ready) (omega (arith, c .before .size .ensures))
 
-grow-same-length-5 : (t : ℕ) → grow-lts.Need-same-length-5 (
-  size-reads.Asked,
-  size-reads.Learnt,
-  split-group-reads.Asked,
-  split-group-reads.Learnt,
-  put-group-reads.Asked,
-  put-group-reads.Learnt,
-  walk-below t,
-  walk.Post,
-) (grow-at t) grow.Post
-grow-same-length-5 t c = search needs
+  grow-split-group-requires : grow-lts.Need-split-group-requires grow-calls grow-at grow.Post
+  grow-split-group-requires c κs =
+      let p = opened (tested c) .pre .1 .0 in
+      (search-given (p .0) (more (tested c)), p .0 .parallel, p .0 .places, omega (arith, p .1))
 
-grow-returns-2 : (t : ℕ) → grow-lts.Need-returns-2 (
-  size-reads.Asked,
-  size-reads.Learnt,
-  split-group-reads.Asked,
-  split-group-reads.Learnt,
-  put-group-reads.Asked,
-  put-group-reads.Learnt,
-  walk-below t,
-  walk.Post,
-) (grow-at t) grow.Post
-grow-returns-2 t c =
-    let p = c .before .before .before .before .before .before .before .before .before .before .before .before .before .before .before .before .before .before .before .before .before .before .before .before .before .before .before .before .before .before .before .before .before .before .before .before .before .before .before .before .before .pre .1 .0 in
-    let handed = c .before .before .before .before .before .before .before .before .before .before .before .before .before .before .before .before .before .before .before .before .before .before .before .before .before .before .before .before .before .split-group .ensures in
-    let put = c .before .before .before .before .before .before .before .before .before .before .before .before .before .before .before .before .before .before .before .before .put-group .ensures in
-    let two = more (c .before .before .before .before .before .before .before .before .before .before .before .before .before .before .before .before .before .before .before .before .before .before .before .before .before .before .before .before .before .before .before .before .before .before) in
-    grown-group p two (handed .0) _ (listed-parts p two (handed .0)) (handed .1 ∙ p .clear) (rw (put .0) at (put .1)) (rw (put .0) at (c .before .before .before .before .before .before .before .before .before .walk .ensures))
+  grow-put-group-requires : grow-lts.Need-put-group-requires grow-calls grow-at grow.Post
+  grow-put-group-requires c κs = λ e.
+      let test = tested (divided c .before) in
+      let room = first-room _ (opened test .pre .1 .0 .0) (more test) (opened test .pre .1 .1) in
+      (omega (arith, room .taxa-room), omega (arith, room .costs-room))
 
-abbrev walk-Inv-loop : walk-lts.InvT-loop
-walk-Inv-loop weights ones₀ zeros₀ ws₀ n list k bound walked₀ paid₀ at end₀ i₀ ones zeros ws found paid end i =
-    (i ≤ k) × Parallel weights ones zeros × (ws ≡ ws₀) × (length found ≡ length walked₀) × (length paid ≡ length paid₀)
-    × Going (build 64 (length weights)) (take k list) (colsOf weights ones₀ zeros₀) (colsOf weights ones zeros) (groupsOf walked₀ paid₀ at) (groupsOf found paid end) at end i
+  grow-walk-requires : grow-lts.Need-walk-requires grow-calls grow-at grow.Post
+  grow-walk-requires c κs =
+      let put = noted c .put-group in
+      let split = divided (noted c .before) in
+      let test = tested (split .before) in
+      let p = opened test .pre in
+      let ready = p .1 .0 .0 in
+      let handed = split .split-group .ensures in
+      let two = more test in
+      let ps = listed-parts ready two (handed .0) in
+      let fits = listed-fits ready two (handed .0) (search needs) in (
+        omega (arith, p .0),
+        (
+          (rw (test .before .size .ensures) (parts-ready ready two (handed .0) _ ps (omega (arith, p .1 .0 .1, fits))), fits, omega arith),
+          (
+            ready-part ready (handed .0 .parallel) (handed .1 ∙ ready .clear) (pow-pos _),
+            parts-room ready two (handed .0) _ _ ps (put .ensures .0) (p .1 .1) (put .kept .1 .0) (put .kept .1 .1 .0),
+          ),
+        ),
+      )
 
-abbrev walk-μ-loop : walk-lts.MeasureT-loop
-walk-μ-loop weights ones₀ zeros₀ ws₀ n list k bound walked₀ paid₀ at end₀ i₀ ones zeros ws walked paid end i = k - i
+  grow-returns-2 : grow-lts.Need-returns-2 grow-calls grow-at grow.Post
+  grow-returns-2 c =
+      let put = noted (gone-over c .before) .put-group .ensures in
+      let split = divided (noted (gone-over c .before) .before) in
+      let test = tested (split .before) in
+      let ready = opened test .pre .1 .0 .0 in
+      let handed = split .split-group .ensures in
+      let two = more test in
+      grown-group ready two (handed .0) _ (listed-parts ready two (handed .0)) (put .0) (handed .1 ∙ ready .clear) (put .1) (gone-over c .walk .ensures)
 
-walk-loop-holds :
-    (t : ℕ) →
-    walk-lts.Need-loop-holds
-    (grow-below t, grow.Post)
-    (walk-at t)
-    walk.Post
-    walk-Inv-loop
-    walk-μ-loop
-walk-loop-holds t c =
-    let p = c .before .before .before .before .before .before .pre .1 .1 in
-    (search needs, p .0 .parallel, refl, refl, refl, going-start _ _ _ _ _)
+  -- ---- walk
 
-walk-mul-grow :
-    (t : ℕ) →
-    walk-lts.Need-mul-grow
-    (grow-below t, grow.Post)
-    (walk-at t)
-    walk.Post
-    walk-Inv-loop
-    walk-μ-loop
-walk-mul-grow t c = search needs
+  walk-loop-holds : walk-lts.Need-loop-holds walk-calls walk-at walk.Post Inv μ-loop
+  walk-loop-holds c =
+      let p = c .before .before .before .before .before .before .pre .1 in
+      (search needs, p .1 .0 .parallel, refl, refl, refl, refl, refl, going-start _ _ _ _ _)
 
-walk-shared-slice-read-grow : (t : ℕ) → walk-lts.Need-shared-slice-read-grow (
-  grow-below t,
-  grow.Post,
-) (walk-at t) walk.Post walk-Inv-loop walk-μ-loop
-walk-shared-slice-read-grow t c = search needs
+  abbrev inside : walk-lts.After-grow-arg6 walk-calls walk-at walk.Post Inv μ-loop → walk-lts.At-loop walk-calls walk-at walk.Post Inv μ-loop
+  inside c = c .before .before .before .before .before .before .before .before
 
-walk-grow-requires :
-    (t : ℕ) →
-    walk-lts.Need-grow-requires
-    (grow-below t, grow.Post)
-    (walk-at t)
-    walk.Post
-    walk-Inv-loop
-    walk-μ-loop
-walk-grow-requires t c κs =
-    let p = c .before .before .before .before .before .before .before .before .before .before .before .before .before .before .pre in
-    let l = c .before .before .before .before .before .before .before .loop in
-    let a = c .before .before .before .before .before .before .before .before .before .before .before .before .before .before .args in
-    let all = length-take-le (a .k) (a .list .now) (p .1 .0 .1) in
-    let here = getD-take (a .k) (a .list .now) (l .i) 0 (omega arith) in
-    let inside : l .i < length (take (a .k) (a .list .now)) = omega arith in
-    let small = rw here at (p .1 .0 .0 .small (l .i) inside) in
-    let room = rw here at (going-room _ _ (l .inv .5) inside) in (
-      omega (arith, p .0),
-      (
-        ready-part (p .1 .1 .0) (l .inv .1) (l .inv .2) (rw here at (p .1 .0 .0 .short (l .i) inside)),
-        record { taxa-room = omega (arith, p .1 .1 .1 .taxa-room); costs-room = omega (arith, p .1 .1 .1 .costs-room) },
-      ),
-    )
+  abbrev entered : walk-lts.At-loop walk-calls walk-at walk.Post Inv μ-loop → walk-lts.Start walk-calls walk-at walk.Post Inv μ-loop
+  entered c = c .before .before .before .before .before .before .before
 
-walk-add-i :
-    (t : ℕ) →
-    walk-lts.Need-add-i (grow-below t, grow.Post) (walk-at t) walk.Post walk-Inv-loop walk-μ-loop
-walk-add-i t c = search needs
+  walk-grow-requires : walk-lts.Need-grow-requires walk-calls walk-at walk.Post Inv μ-loop
+  walk-grow-requires c κs =
+      let l = inside c .loop in
+      let a = entered (inside c) .args in
+      let p = entered (inside c) .pre in
+      let all = length-take-le (a .k) (a .list .now) (p .1 .0 .1) in
+      let here = still-listed (a .k) (l .list) (a .list .now) (l .i) (l .inv .4) (omega arith) in
+      let now : l .i < length (take (a .k) (a .list .now)) = omega arith in
+      let part = p .1 .0 .0 in
+      let small = rw here at (part .small (l .i) now) in
+      let fits = rw here at (part .fits (l .i) now) in
+      let room = rw here at (going-room _ _ (l .inv .7) now) in (
+        omega (arith, p .0, small),
+        (
+          (ready-part (p .1 .1 .0) (l .inv .1) (l .inv .2) (rw here at (part .short (l .i) now)), omega (arith, fits, rest-length (a .k) (l .list), l .inv .3)),
+          record { taxa-room = omega (arith, p .1 .1 .1 .taxa-room); costs-room = omega (arith, p .1 .1 .1 .costs-room) },
+        ),
+      )
 
-walk-loop-less :
-    (t : ℕ) →
-    walk-lts.Need-loop-less
-    (grow-below t, grow.Post)
-    (walk-at t)
-    walk.Post
-    walk-Inv-loop
-    walk-μ-loop
-walk-loop-less t c = search needs
+  walk-loop-again : walk-lts.Need-loop-again walk-calls walk-at walk.Post Inv μ-loop
+  walk-loop-again c =
+      let after = c .before .before .before .before .before .before .before .before .before .before .before in
+      let l = inside (after .before) .loop in
+      let a = entered (inside (after .before)) .args in
+      let p = entered (inside (after .before)) .pre in
+      let g = after .grow .ensures in
+      let all = length-take-le (a .k) (a .list .now) (p .1 .0 .1) in
+      let here = still-listed (a .k) (l .list) (a .list .now) (l .i) (l .inv .4) (omega arith) in
+      let now : l .i < length (take (a .k) (a .list .now)) = omega arith in
+      let kept = take-put (a .k) (length (l .list) - a .k) (l .list) (after .grow .last .1 .1 .1 .1 .1 .1 .0) (omega arith) in
+      (search needs, g .parallel, g .workspace ∙ l .inv .2, search needs, kept ∙ l .inv .4, search needs, search needs, going-next _ _ (l .inv .7) now (rw here (g .columns)) (rw here (g .groups)) (rw here (g .many)))
 
-walk-loop-again :
-    (t : ℕ) →
-    walk-lts.Need-loop-again
-    (grow-below t, grow.Post)
-    (walk-at t)
-    walk.Post
-    walk-Inv-loop
-    walk-μ-loop
-walk-loop-again t c =
-    let l = c .before .before .before .before .before .before .before .before .before .before .before .before .before .before .before .before .before .loop in
-    let a = c .before .before .before .before .before .before .before .before .before .before .before .before .before .before .before .before .before .before .before .before .before .before .before .before .args in
-    let p = c .before .before .before .before .before .before .before .before .before .before .before .before .before .before .before .before .before .before .before .before .before .before .before .before .pre in
-    let g = c .before .before .before .before .before .before .before .before .before .grow .ensures in
-    let all = length-take-le (a .k) (a .list .now) (p .1 .0 .1) in
-    let here = getD-take (a .k) (a .list .now) (l .i) 0 (omega arith) in
-    let inside : l .i < length (take (a .k) (a .list .now)) = omega arith in
-    (search needs, g .parallel, g .workspace ∙ l .inv .2, search needs, search needs, going-next _ _ (l .inv .5) inside (rw here (g .columns)) (rw here (g .groups)) (rw here (g .many)))
-
-walk-same-length :
-    (t : ℕ) →
-    walk-lts.Need-same-length
-    (grow-below t, grow.Post)
-    (walk-at t)
-    walk.Post
-    walk-Inv-loop
-    walk-μ-loop
-walk-same-length t c = search needs
-
-walk-same-length-2 :
-    (t : ℕ) →
-    walk-lts.Need-same-length-2
-    (grow-below t, grow.Post)
-    (walk-at t)
-    walk.Post
-    walk-Inv-loop
-    walk-μ-loop
-walk-same-length-2 t c = search needs
-
-walk-same-length-3 :
-    (t : ℕ) →
-    walk-lts.Need-same-length-3
-    (grow-below t, grow.Post)
-    (walk-at t)
-    walk.Post
-    walk-Inv-loop
-    walk-μ-loop
-walk-same-length-3 t c = search needs
-
-walk-same-length-4 :
-    (t : ℕ) →
-    walk-lts.Need-same-length-4
-    (grow-below t, grow.Post)
-    (walk-at t)
-    walk.Post
-    walk-Inv-loop
-    walk-μ-loop
-walk-same-length-4 t c = search needs
-
-walk-same-length-5 :
-    (t : ℕ) →
-    walk-lts.Need-same-length-5
-    (grow-below t, grow.Post)
-    (walk-at t)
-    walk.Post
-    walk-Inv-loop
-    walk-μ-loop
-walk-same-length-5 t c = search needs
-
-walk-returns :
-    (t : ℕ) →
-    walk-lts.Need-returns
-    (grow-below t, grow.Post)
-    (walk-at t)
-    walk.Post
-    walk-Inv-loop
-    walk-μ-loop
-walk-returns t c =
-    let l = c .before .loop in
-    let a = c .before .before .before .before .before .before .before .before .args in
-    let p = c .before .before .before .before .before .before .before .before .pre in
-    let (columns, groups, many) = going-end _ _ (l .inv .5) (omega (arith, length-take-le (a .k) (a .list .now) (p .1 .0 .1))) in
-    record { columns = columns; parallel = l .inv .1; groups = groups; many = many; workspace = l .inv .2 }
+  walk-returns : walk-lts.Need-returns walk-calls walk-at walk.Post Inv μ-loop
+  walk-returns c =
+      let l = c .before .loop in
+      let a = entered (c .before) .args in
+      let p = entered (c .before) .pre .1 in
+      let (columns, groups, many) = going-end _ _ (l .inv .7) (omega (arith, length-take-le (a .k) (a .list .now) (p .0 .1))) in
+      record { columns = columns; parallel = l .inv .1; groups = groups; many = many; workspace = l .inv .2 }
 
 pub +grow+walk-spec : {M : Type 1} → statement M
-+grow+walk-spec = close μ-grow μ-walk (λ t. grow-lts.spec (
-  size-reads.Asked,
-  size-reads.Learnt,
-  split-group-reads.Asked,
-  split-group-reads.Learnt,
-  put-group-reads.Asked,
-  put-group-reads.Learnt,
-  walk-below t,
-  walk.Post,
-)
-    (grow-at t)
-    grow.Post
-    (grow-size-requires t)
++grow+walk-spec =
+    close μ-grow μ-walk
+    (λ t. grow-lts.spec (grow-calls t) (grow-at t) grow.Post
+    (λ c κs. search needs)
     (grow-returns t)
-    (grow-slice-aggregate-split-group t)
     (grow-split-group-requires t)
     (grow-put-group-requires t)
-    (grow-slice-aggregate-walk t)
     (grow-walk-requires t)
-    (grow-same-length t)
-    (grow-same-length-2 t)
-    (grow-same-length-3 t)
-    (grow-same-length-4 t)
-    (grow-same-length-5 t)
+    (λ c. search needs)
+    (λ c. search needs)
+    (λ c. search needs)
+    (λ c. search needs)
+    (λ c. search needs)
+    (λ c. search needs)
     (grow-returns-2 t))
-    λ t. walk-lts.spec
-    (grow-below t, grow.Post)
-    (walk-at t)
-    walk.Post
-    walk-Inv-loop
-    walk-μ-loop
+    λ t. walk-lts.spec (walk-calls t) (walk-at t) walk.Post Inv μ-loop
     (walk-loop-holds t)
-    (walk-mul-grow t)
-    (walk-shared-slice-read-grow t)
+    (λ c. search needs)
+    (λ c. search needs)
+    (λ c. search needs)
+    (λ c. search needs)
+    (λ c. search needs)
+    (λ c. search needs)
     (walk-grow-requires t)
-    (walk-add-i t)
-    (walk-loop-less t)
+    (λ c. search needs)
+    (λ c. search needs)
     (walk-loop-again t)
-    (walk-same-length t)
-    (walk-same-length-2 t)
-    (walk-same-length-3 t)
-    (walk-same-length-4 t)
-    (walk-same-length-5 t)
+    (λ c. search needs)
+    (λ c. search needs)
+    (λ c. search needs)
+    (λ c. search needs)
+    (λ c. search needs)
+    (λ c. search needs)
     (walk-returns t)
