@@ -116,18 +116,14 @@ build-loaded-spec =
     mul-size
     (λ c κs. search needs)
     all-requires
-    (λ c. search needs)
-    (λ c. search needs)
-    (λ c. search needs)
+    (λ c. search needs) (λ c. search needs) (λ c. search needs)
     grow-requires
-    (λ c. search needs)
-    (λ c. search needs)
+    (λ c. search needs) (λ c. search needs)
     write-answer-requires
     (λ c. end-again c .load2 .kept .1 .0 ∙ end-load c .load .kept .1 .0)
     (λ c. end-load c .load .kept .1 .1 .0)
     (λ c. end-load c .load .kept .1 .1 .1 .0)
     (λ c. end-walk c .grow .kept .1 .0 ∙ end-again c .load2 .kept .1 .1 .0)
     (λ c. end-walk c .grow .kept .1 .1 .0 ∙ end-again c .load2 .kept .1 .1 .1 .0)
-    (λ c. search needs)
-    (λ c. search needs)
+    (λ c. search needs) (λ c. search needs)
     returns)
