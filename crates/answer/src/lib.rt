@@ -81,7 +81,9 @@ fn least(a: usize, b: usize, c: usize) -> usize
 
 // The operation "read an answer": first all tests, then the lent list is filled.
 pub fn read(file: &[u8], columns: &mut [u64], raised: &mut [u64], lowered: &mut [u64]) -> Reading
-    ensures { λ r. ⌜ Reads (now (file .entry)) (now (columns .entry)) (now (raised .entry)) (now (lowered .entry)) r (now (columns .exit)) (now (raised .exit)) (now (lowered .exit)) ⌝ }
+    ensures { λ r. ⌜
+        Reads (now (file .entry)) (now (columns .entry)) (now (raised .entry)) (now (lowered .entry)) r
+        (now (columns .exit)) (now (raised .exit)) (now (lowered .exit)) ⌝ }
 {
     let passed = pass_file(file);
     let Passed::At(_) = passed else {
@@ -109,7 +111,9 @@ pub fn write(
     lowered: &[u64],
     out: &mut [u8],
 ) -> Written
-    ensures { λ r. ⌜ Writes (contentOf answer (now (columns .entry)) (now (raised .entry)) (now (lowered .entry))) (listed (now (columns .entry)) (now (raised .entry)) (now (lowered .entry))) (now (out .entry)) r (now (out .exit)) ⌝ }
+    ensures { λ r. ⌜
+        Writes (contentOf answer (now (columns .entry)) (now (raised .entry)) (now (lowered .entry)))
+        (listed (now (columns .entry)) (now (raised .entry)) (now (lowered .entry))) (now (out .entry)) r (now (out .exit)) ⌝ }
 {
     let entries = least(columns.len(), raised.len(), lowered.len());
     let passed = pass_given(answer, columns, raised, lowered, entries);

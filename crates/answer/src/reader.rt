@@ -21,7 +21,9 @@ use record::number::u32_at;
 use record::number::u64_at;
 
 fn pass_head(file: &[u8]) -> Passed
-    ensures { λ r. ⌜ r ≡ headTest (inFile (now (file .entry))) (numberAt 2 (now (file .entry)) 4) (numberAt 2 (now (file .entry)) 6) (groupsIn (now (file .entry))) (flipsIn (now (file .entry))) (flipsIn (now (file .entry))) ⌝ }
+    ensures { λ r. ⌜
+        r ≡ headTest (inFile (now (file .entry))) (numberAt 2 (now (file .entry)) 4) (numberAt 2 (now (file .entry)) 6)
+        (groupsIn (now (file .entry))) (flipsIn (now (file .entry))) (flipsIn (now (file .entry))) ⌝ }
 {
     let step = Cursor::start().read(file, Record::of(Record::ANSWER_HEAD));
     let Step::Payload(_, next) = step else {
@@ -65,7 +67,9 @@ fn pass_groups(file: &[u8], n: u16, groups: u16, from: Cursor) -> Passed
 // One flips record; `floor` is the least column that those before it leave.
 fn pass_entry(file: &[u8], n: u16, m: u16, floor: u64, here: Cursor) -> Passed
     requires { ⌜ n ≤ 64 ⌝ }
-    ensures { λ r. ⌜ r ≡ entryTest (inFile (now (file .entry))) n m floor (numberAt 2 (now (file .entry)) (here .at + 4)) (numberAt 8 (now (file .entry)) (here .at + 6)) (numberAt 8 (now (file .entry)) (here .at + 14)) here ⌝ }
+    ensures { λ r. ⌜
+        r ≡ entryTest (inFile (now (file .entry))) n m floor (numberAt 2 (now (file .entry)) (here .at + 4))
+        (numberAt 8 (now (file .entry)) (here .at + 6)) (numberAt 8 (now (file .entry)) (here .at + 14)) here ⌝ }
 {
     let step = here.read(file, Record::of(Record::FLIPS));
     let Step::Payload(at, next) = step else {
@@ -84,7 +88,9 @@ fn pass_entry(file: &[u8], n: u16, m: u16, floor: u64, here: Cursor) -> Passed
 
 fn pass_flips(file: &[u8], n: u16, m: u16, flips: u16, from: Cursor) -> Passed
     requires { ⌜ n ≤ 64 ⌝ }
-    ensures { λ r. ⌜ r ≡ walk (flipsTest (inFile (now (file .entry))) n m (columnsFrom (now (file .entry)) (from .at) flips) (raisedFrom (now (file .entry)) (from .at) flips) (loweredFrom (now (file .entry)) (from .at) flips)) flips from ⌝ }
+    ensures { λ r. ⌜
+        r ≡ walk (flipsTest (inFile (now (file .entry))) n m (columnsFrom (now (file .entry)) (from .at) flips)
+        (raisedFrom (now (file .entry)) (from .at) flips) (loweredFrom (now (file .entry)) (from .at) flips)) flips from ⌝ }
 {
     let mut here = from;
     let mut floor: u64 = 0;

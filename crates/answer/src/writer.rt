@@ -82,7 +82,9 @@ pub fn put_answer(out: &mut [u8], answer: Answer, columns: &[u64], raised: &[u64
     requires { ⌜ (answer .groups ≤ 63) × (lengthOf (contentOf answer (now columns) (now raised) (now lowered)) ≤ length (now out)) ⌝ }
     requires { ⌜ (answer .flips ≤ length (now columns)) × (answer .flips ≤ length (now raised)) × (answer .flips ≤ length (now lowered)) ⌝ }
     requires { ⌜ ((j : ℕ) → j < answer .flips → getD (now columns) j 0 < 65536) ⌝ }
-    ensures { λ _. ⌜ now (out .exit) ≡ over (fileOf (contentOf answer (now (columns .entry)) (now (raised .entry)) (now (lowered .entry)))) 0 (now (out .entry)) ⌝ }
+    ensures { λ _. ⌜
+        now (out .exit)
+        ≡ over (fileOf (contentOf answer (now (columns .entry)) (now (raised .entry)) (now (lowered .entry)))) 0 (now (out .entry)) ⌝ }
 {
     let taxa = answer.taxa;
     let costs = answer.costs;

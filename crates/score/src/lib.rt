@@ -127,8 +127,12 @@ fn with_column(sum: Sums, it: Column, node: u64) -> Sums
 // The score of the first m columns of a file that the check takes.
 fn score_columns(file: &[u8], m: usize, n: u32, groups: &[u64], k: usize) -> Sums
     requires { ⌜ (m ≤ 256) × (8 + 22 * m ≤ length (now file)) × (n ≤ 64) × (k ≤ length (now groups)) ⌝ }
-    ensures raised { λ r. ⌜ (r .raises .0 ≡ score.raisesOf (columnIn (now (file .entry))) (score.nodeFor n (now (groups .entry)) k) m) × (r .raises .0 ≤ m * 4194240) ⌝ }
-    ensures lowered { λ r. ⌜ (r .lowers .0 ≡ score.lowersOf (columnIn (now (file .entry))) (score.nodeFor n (now (groups .entry)) k) m) × (r .lowers .0 ≤ m * 4194240) ⌝ }
+    ensures raised { λ r. ⌜
+        (r .raises .0 ≡ score.raisesOf (columnIn (now (file .entry))) (score.nodeFor n (now (groups .entry)) k) m)
+        × (r .raises .0 ≤ m * 4194240) ⌝ }
+    ensures lowered { λ r. ⌜
+        (r .lowers .0 ≡ score.lowersOf (columnIn (now (file .entry))) (score.nodeFor n (now (groups .entry)) k) m)
+        × (r .lowers .0 ≤ m * 4194240) ⌝ }
 {
     let mut sum = Sums {
         raises: Raises(0),
@@ -174,7 +178,9 @@ fn score_read(matrix: &[u8], answer: &[u8], n: u16, m: u16) -> Scored
 
 // The operation "score".
 pub fn score(matrix: &[u8], answer: &[u8]) -> Scored
-    ensures { λ r. ⌜ (r ≡ operation.scored (now (matrix .entry)) (now (answer .entry))) × (operation.returned r ≡ operation.scoreNumbers (now (matrix .entry)) (now (answer .entry))) ⌝ }
+    ensures { λ r. ⌜
+        (r ≡ operation.scored (now (matrix .entry)) (now (answer .entry)))
+        × (operation.returned r ≡ operation.scoreNumbers (now (matrix .entry)) (now (answer .entry))) ⌝ }
 {
     let checked = matrix::check(matrix);
     match checked {

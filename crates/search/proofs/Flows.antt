@@ -152,7 +152,7 @@ module _ {W J L : List ℕ} {n m : ℕ} (z : Net W J L n m) (ws : List ℤ) (pla
   pub no-ready : Ready W J L n m (cleared (n * m) ws) (replicate 256 0)
   no-ready = record {
     net = z;
-    places = omega (arith, cleared-kept (n * m) ws places .long);
+    places = omega (arith, cleared-kept {k = n * m} ws refl places .long);
     counts = refl;
     column = λ c b. record {
       out-fits = λ i bi. omega (arith, out-0 n m ws c i b bi);

@@ -127,8 +127,8 @@ module _ {A : Type 0} where
   drop-filled zero v d = refl
   drop-filled (suc n) v d = drop-filled n v d
 
-pub cleared-kept : (k : ℕ) (ws : List ℤ) → k ≤ length ws → Kept k ws (cleared k ws)
-cleared-kept k ws l = record {
+pub cleared-kept : {k : ℕ} (ws : List ℤ) {ws′ : List ℤ} → ws′ ≡ cleared k ws → k ≤ length ws → Kept k ws ws′
+cleared-kept {k} ws e l = rw e record {
   long = omega (arith, length-append (replicate k (pos 0)) (drop k ws), length-replicate k (pos 0), length-drop k ws);
   rest = drop-filled k (pos 0) (drop k ws);
 }

@@ -62,7 +62,9 @@ fn connected(
     s: usize,
 ) -> u64
     requires { ⌜ Net (now weights) (now joined) (now limits) n m × (n * m ≤ length (now ws)) × (s < n) ⌝ }
-    ensures { λ r. ⌜ Side (now (weights .entry)) (now (joined .entry)) (now (limits .entry)) n m (now (ws .exit)) s r × (now (ws .exit) ≡ cleared (n * m) (now (ws .entry))) ⌝ }
+    ensures { λ r. ⌜
+        Side (now (weights .entry)) (now (joined .entry)) (now (limits .entry)) n m (now (ws .exit)) s r
+        × (now (ws .exit) ≡ cleared (n * m) (now (ws .entry))) ⌝ }
 {
     net::clear(ws, n * m);
     let used = [0u32; 256];
@@ -89,8 +91,15 @@ fn attempt(
     best: Best,
     u: usize,
 ) -> Best
-    requires { ⌜ Net (now weights) (now joined) (now limits) n m × (n * m ≤ length (now ws)) × (s < u) × (u < n) × Tried (now weights) (now joined) (now limits) n m group s u (best .cost) (best .other) ⌝ }
-    ensures { λ r. ⌜ Tried (now (weights .entry)) (now (joined .entry)) (now (limits .entry)) n m group s (u + 1) (r .cost) (r .other) × Kept (n * m) (now (ws .entry)) (now (ws .exit)) ⌝ }
+    requires { ⌜
+        Net (now weights) (now joined) (now limits) n m
+        × (n * m ≤ length (now ws))
+        × (s < u)
+        × (u < n)
+        × Tried (now weights) (now joined) (now limits) n m group s u (best .cost) (best .other) ⌝ }
+    ensures { λ r. ⌜
+        Tried (now (weights .entry)) (now (joined .entry)) (now (limits .entry)) n m group s (u + 1) (r .cost) (r .other)
+        × Kept (n * m) (now (ws .entry)) (now (ws .exit)) ⌝ }
 {
     if !taxa::contains(group, u as u32) {
         return best;
@@ -117,8 +126,15 @@ fn cheapest(
     ws: &mut [i32],
     s: usize,
 ) -> Best
-    requires { ⌜ Net (now weights) (now joined) (now limits) n m × (n * m ≤ length (now ws)) × (group < 2 ^ n) × (1 < count n group) × (s ≡ low n group) ⌝ }
-    ensures { λ r. ⌜ Tried (now (weights .entry)) (now (joined .entry)) (now (limits .entry)) n m group s n (r .cost) (r .other) × Kept (n * m) (now (ws .entry)) (now (ws .exit)) ⌝ }
+    requires { ⌜
+        Net (now weights) (now joined) (now limits) n m
+        × (n * m ≤ length (now ws))
+        × (group < 2 ^ n)
+        × (1 < count n group)
+        × (s ≡ low n group) ⌝ }
+    ensures { λ r. ⌜
+        Tried (now (weights .entry)) (now (joined .entry)) (now (limits .entry)) n m group s n (r .cost) (r .other)
+        × Kept (n * m) (now (ws .entry)) (now (ws .exit)) ⌝ }
 {
     let t = taxa::lowest(taxa::rest(group)) as usize;
     let cut = push::largest(weights, joined, limits, n, m, ws, s, t, 4294967295);
@@ -150,7 +166,9 @@ pub fn divide(
     ws: &mut [i32],
 ) -> Split
     requires { ⌜ Given (now weights) (now ones) (now zeros) group n m × (n * m ≤ length (now ws)) ⌝ }
-    ensures { λ r. ⌜ Divided (now (weights .entry)) (now (ones .entry)) (now (zeros .entry)) group n m (now (ws .exit)) (r .cost) (r .other) (r .side) × Kept (n * m) (now (ws .entry)) (now (ws .exit)) ⌝ }
+    ensures { λ r. ⌜
+        Divided (now (weights .entry)) (now (ones .entry)) (now (zeros .entry)) group n m (now (ws .exit)) (r .cost) (r .other) (r .side)
+        × Kept (n * m) (now (ws .entry)) (now (ws .exit)) ⌝ }
 {
     let joined = joined_of(ones, zeros, group, m);
     let limits = limits_of(weights, zeros, group, m);

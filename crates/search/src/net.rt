@@ -100,7 +100,9 @@ pub fn inn_in(ws: &[i32], n: usize, c: usize, i: usize) -> u32
 // d more from taxon i to taxon j through column c.
 pub fn hop(ws: &mut [i32], n: usize, m: usize, c: usize, i: usize, j: usize, d: u32)
     requires { ⌜ CanHop (now ws) n m c i j d ⌝ }
-    ensures { λ _. ⌜ Hopped n m (outs (now (ws .entry)) n) (inns (now (ws .entry)) n) (outs (now (ws .exit)) n) (inns (now (ws .exit)) n) c i j d × Kept (n * m) (now (ws .entry)) (now (ws .exit)) ⌝ }
+    ensures { λ _. ⌜
+        Hopped n m (outs (now (ws .entry)) n) (inns (now (ws .entry)) n) (outs (now (ws .exit)) n) (inns (now (ws .exit)) n) c i j d
+        × Kept (n * m) (now (ws .entry)) (now (ws .exit)) ⌝ }
 {
     let a = slot(n, c, i);
     let b = slot(n, c, j);

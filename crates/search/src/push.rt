@@ -24,7 +24,10 @@ fn step(
     d: u32,
 )
     requires { ⌜ CanHop (now ws) n m c i j d × CanCount n (now ws) (now used) c d ⌝ }
-    ensures { λ _. ⌜ Hopped n m (outs (now (ws .entry)) n) (inns (now (ws .entry)) n) (outs (now (ws .exit)) n) (inns (now (ws .exit)) n) c i j d × Kept (n * m) (now (ws .entry)) (now (ws .exit)) × Counted n (now (ws .exit)) (now (used .entry)) (now (used .exit)) c ⌝ }
+    ensures { λ _. ⌜
+        Hopped n m (outs (now (ws .entry)) n) (inns (now (ws .entry)) n) (outs (now (ws .exit)) n) (inns (now (ws .exit)) n) c i j d
+        × Kept (n * m) (now (ws .entry)) (now (ws .exit))
+        × Counted n (now (ws .exit)) (now (used .entry)) (now (used .exit)) c ⌝ }
 {
     let before = net::out_in(ws, n, c, i) + net::out_in(ws, n, c, j);
     net::hop(ws, n, m, c, i, j, d);
@@ -58,7 +61,9 @@ fn advance(
     size: u32,
 ) -> Cut
     requires { ⌜ Flowing (now weights) (now joined) (now limits) n m (now ws) (now used) s t size ⌝ }
-    ensures { λ r. ⌜ Advanced (now (weights .entry)) (now (joined .entry)) (now (limits .entry)) n m (now (ws .exit)) (now (used .exit)) s t size (r .size) (r .side) × Kept (n * m) (now (ws .entry)) (now (ws .exit)) ⌝ }
+    ensures { λ r. ⌜
+        Advanced (now (weights .entry)) (now (joined .entry)) (now (limits .entry)) n m (now (ws .exit)) (now (used .exit)) s t size (r .size) (r .side)
+        × Kept (n * m) (now (ws .entry)) (now (ws .exit)) ⌝ }
 {
     let mut tree = [0u32; 256];
     let goal = taxa::single(t as u32);
@@ -109,7 +114,9 @@ pub fn largest(
     bound: u32,
 ) -> Cut
     requires { ⌜ Net (now weights) (now joined) (now limits) n m × (n * m ≤ length (now ws)) × (s < n) × (t < n) × (t ≢ s) ⌝ }
-    ensures { λ r. ⌜ Largest (now (weights .entry)) (now (joined .entry)) (now (limits .entry)) n m (now (ws .exit)) s t bound (r .size) (r .side) × Kept (n * m) (now (ws .entry)) (now (ws .exit)) ⌝ }
+    ensures { λ r. ⌜
+        Largest (now (weights .entry)) (now (joined .entry)) (now (limits .entry)) n m (now (ws .exit)) s t bound (r .size) (r .side)
+        × Kept (n * m) (now (ws .entry)) (now (ws .exit)) ⌝ }
 {
     net::clear(ws, n * m);
     let mut used = [0u32; 256];

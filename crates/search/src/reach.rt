@@ -53,8 +53,15 @@ fn gate_at(
     c: usize,
     i: usize,
 ) -> Gate
-    requires { ⌜ (c < 256) × (c < length (now weights)) × (nth (now weights) c < 65536) × Entry (now ws) n c i (nth (now weights) c) × (nth (now used) c ≤ nth (now limits) c) ⌝ }
-    ensures { λ r. ⌜ IsGate (now (weights .entry)) (now (limits .entry)) (now (used .entry)) n (now (ws .entry)) c i (r .weight) (r .sends) (r .back) (r .room) ⌝ }
+    requires { ⌜
+        (c < 256)
+        × (c < length (now weights))
+        × (nth (now weights) c < 65536)
+        × Entry (now ws) n c i (nth (now weights) c)
+        × (nth (now used) c ≤ nth (now limits) c) ⌝ }
+    ensures { λ r. ⌜
+        IsGate (now (weights .entry)) (now (limits .entry)) (now (used .entry)) n (now (ws .entry)) c i
+        (r .weight) (r .sends) (r .back) (r .room) ⌝ }
 {
     let weight = wide(weights[c]);
     let back = net::inn_in(ws, n, c, i);
@@ -70,7 +77,9 @@ fn gate_at(
 // What a hop to taxon j carries.
 fn carry_to(g: Gate, ws: &[i32], n: usize, c: usize, j: usize) -> u32
     requires { ⌜ (g .weight < 65536) × Entry (now ws) n c j (g .weight) ⌝ }
-    ensures { λ r. ⌜ r ≡ min (min (g .sends) (g .weight + outs (now (ws .entry)) n c j - inns (now (ws .entry)) n c j)) (max (max (g .back) (outs (now (ws .entry)) n c j)) (g .room)) ⌝ }
+    ensures { λ r. ⌜
+        r ≡ min (min (g .sends) (g .weight + outs (now (ws .entry)) n c j - inns (now (ws .entry)) n c j))
+        (max (max (g .back) (outs (now (ws .entry)) n c j)) (g .room)) ⌝ }
 {
     let out = net::out_in(ws, n, c, j);
     let takes = spare(g.weight, out, net::inn_in(ws, n, c, j));
@@ -111,7 +120,11 @@ fn through(
     i: usize,
     c: usize,
 ) -> u64
-    requires { ⌜ Ready (now weights) (now joined) (now limits) n m (now ws) (now used) × Grow (now weights) (now joined) (now limits) n m (now ws) s met (now tree) done i × (c < m) × (has (nth (now joined) c) i ≡ true) ⌝ }
+    requires { ⌜
+        Ready (now weights) (now joined) (now limits) n m (now ws) (now used)
+        × Grow (now weights) (now joined) (now limits) n m (now ws) s met (now tree) done i
+        × (c < m)
+        × (has (nth (now joined) c) i ≡ true) ⌝ }
     ensures { λ r. ⌜ Passed (now (weights .entry)) (now (joined .entry)) (now (limits .entry)) n m (now (ws .entry)) s met r (now (tree .exit)) done i c 0 ⌝ }
 {
     let g = gate_at(weights, limits, n, ws, used, c, i);
@@ -133,7 +146,9 @@ fn through(
 // Whether a column that joins `joined` can lead from i to a taxon that is not met.
 fn worth(joined: u64, met: u64, i: usize) -> bool
     requires { ⌜ i < 64 ⌝ }
-    ensures { λ r. ⌜ (r ≡ true → has joined i ≡ true) × (r ≡ false → (x : ℕ) → has joined i ≡ true → has joined x ≡ true → has met x ≡ true) ⌝ }
+    ensures { λ r. ⌜
+        (r ≡ true → has joined i ≡ true)
+        × (r ≡ false → (x : ℕ) → has joined i ≡ true → has joined x ≡ true → has met x ≡ true) ⌝ }
 {
     if taxa::contains(joined, i as u32) {
         0 < taxa::difference(joined, met)
@@ -165,7 +180,9 @@ fn expand(
     i: usize,
     goal: u64,
 ) -> u64
-    requires { ⌜ Ready (now weights) (now joined) (now limits) n m (now ws) (now used) × Grow (now weights) (now joined) (now limits) n m (now ws) s met (now tree) done i ⌝ }
+    requires { ⌜
+        Ready (now weights) (now joined) (now limits) n m (now ws) (now used)
+        × Grow (now weights) (now joined) (now limits) n m (now ws) s met (now tree) done i ⌝ }
     ensures { λ r. ⌜ Spread (now (weights .entry)) (now (joined .entry)) (now (limits .entry)) n m (now (ws .entry)) s r (now (tree .exit)) done i goal ⌝ }
 {
     let mut all = met;

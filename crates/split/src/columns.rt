@@ -10,8 +10,14 @@ ghost use Rattle.split.specs.Columns.{columnOf, Parallel, matrixIn};
 
 // The columns of a file that the check takes.
 pub fn load(file: &[u8], weights: &mut [u16], ones: &mut [u64], zeros: &mut [u64])
-    requires { ⌜ Parallel (now weights) (now ones) (now zeros) × (length (now weights) ≡ length (matrixIn (now file) .columns)) × (12 + 22 * length (now weights) ≤ length (now file)) ⌝ }
-    ensures { λ _. ⌜ (colsOf (now (weights .exit)) (now (ones .exit)) (now (zeros .exit)) ≡ column (matrixIn (now (file .entry)) .columns)) × Parallel (now (weights .exit)) (now (ones .exit)) (now (zeros .exit)) × (length (now (weights .exit)) ≡ length (now (weights .entry))) ⌝ }
+    requires { ⌜
+        Parallel (now weights) (now ones) (now zeros)
+        × (length (now weights) ≡ length (matrixIn (now file) .columns))
+        × (12 + 22 * length (now weights) ≤ length (now file)) ⌝ }
+    ensures { λ _. ⌜
+        (colsOf (now (weights .exit)) (now (ones .exit)) (now (zeros .exit)) ≡ column (matrixIn (now (file .entry)) .columns))
+        × Parallel (now (weights .exit)) (now (ones .exit)) (now (zeros .exit))
+        × (length (now (weights .exit)) ≡ length (now (weights .entry))) ⌝ }
 {
     for c in 0..weights.len() {
         let it = matrix::column_in(file, c);
@@ -69,7 +75,10 @@ fn flip(it: Column, group: u64, side: u64) -> Column
 // Every column flipped by a division of the group.
 pub fn flip_columns(weights: &[u16], ones: &mut [u64], zeros: &mut [u64], group: u64, side: u64)
     requires { ⌜ Parallel (now weights) (now ones) (now zeros) ⌝ }
-    ensures { λ _. ⌜ (colsOf (now (weights .entry)) (now (ones .exit)) (now (zeros .exit)) ≡ method.flipped 64 (length (now (weights .entry))) (colsOf (now (weights .entry)) (now (ones .entry)) (now (zeros .entry))) group side) × Parallel (now (weights .entry)) (now (ones .exit)) (now (zeros .exit)) ⌝ }
+    ensures { λ _. ⌜
+        (colsOf (now (weights .entry)) (now (ones .exit)) (now (zeros .exit))
+        ≡ method.flipped 64 (length (now (weights .entry))) (colsOf (now (weights .entry)) (now (ones .entry)) (now (zeros .entry))) group side)
+        × Parallel (now (weights .entry)) (now (ones .exit)) (now (zeros .exit)) ⌝ }
 {
     for c in 0..weights.len() {
         let it = Column {

@@ -22,7 +22,9 @@ pub fn divide(
     workspace: &mut [i32],
 ) -> Split
     requires { ⌜ Given (now weights) (now ones) (now zeros) group n m × (n * m ≤ length (now workspace)) ⌝ }
-    ensures { λ r. ⌜ IsSplit m (colsOf (now (weights .entry)) (now (ones .entry)) (now (zeros .entry))) group (r .cost) (r .side) (r .other) × (now (workspace .exit) ≡ cleared (n * m) (now (workspace .entry))) ⌝ }
+    ensures { λ r. ⌜
+        IsSplit m (colsOf (now (weights .entry)) (now (ones .entry)) (now (zeros .entry))) group (r .cost) (r .side) (r .other)
+        × (now (workspace .exit) ≡ cleared (n * m) (now (workspace .entry))) ⌝ }
 {
     let found = search::divide(weights, ones, zeros, group, n, m, workspace);
     search::net::clear(workspace, n * m);
@@ -45,8 +47,15 @@ pub fn split_group(
     workspace: &mut [i32],
     list: &mut [u64],
 ) -> Handed
-    requires { ⌜ Given (now weights) (now ones) (now zeros) group n (length (now weights)) × Parallel (now weights) (now ones) (now zeros) × (n * length (now weights) ≤ length (now workspace)) × (count 64 group ≤ length (now list)) ⌝ }
-    ensures { λ r. ⌜ HandsOn (now (weights .entry)) (now (ones .entry)) (now (zeros .entry)) (now (ones .exit)) (now (zeros .exit)) group (now (list .entry)) (now (list .exit)) (r .cost) (r .number) × (now (workspace .exit) ≡ cleared (n * length (now (weights .entry))) (now (workspace .entry))) ⌝ }
+    requires { ⌜
+        Given (now weights) (now ones) (now zeros) group n (length (now weights))
+        × Parallel (now weights) (now ones) (now zeros)
+        × (n * length (now weights) ≤ length (now workspace))
+        × (count 64 group ≤ length (now list)) ⌝ }
+    ensures { λ r. ⌜
+        HandsOn (now (weights .entry)) (now (ones .entry)) (now (zeros .entry)) (now (ones .exit)) (now (zeros .exit)) group
+        (now (list .entry)) (now (list .exit)) (r .cost) (r .number)
+        × (now (workspace .exit) ≡ cleared (n * length (now (weights .entry))) (now (workspace .entry))) ⌝ }
 {
     let found = divide(weights, ones, zeros, group, n, weights.len(), workspace);
     columns::flip_columns(weights, ones, zeros, group, found.side);

@@ -33,7 +33,10 @@ fn split_loaded(
     m: usize,
     workspace: &mut [i32],
 ) -> Divided
-    requires { ⌜ Splittable (now file) group n m (length (now workspace)) × Parallel (now weights) (now ones) (now zeros) × (length (now weights) ≡ m) ⌝ }
+    requires { ⌜
+        Splittable (now file) group n m (length (now workspace))
+        × Parallel (now weights) (now ones) (now zeros)
+        × (length (now weights) ≡ m) ⌝ }
     ensures { λ r. ⌜ (r ≡ splitOf (matrixIn (now (file .entry))) group) × (now (workspace .exit) ≡ cleared (n * m) (now (workspace .entry))) ⌝ }
 {
     columns::load(file, weights, ones, zeros);
@@ -44,7 +47,9 @@ fn split_loaded(
 // A matrix that is taken: the refusals of the group and of the workspace, and else the division.
 fn split_matrix(file: &[u8], group: u64, n: usize, m: usize, workspace: &mut [i32]) -> Divided
     requires { ⌜ checked.Taken n m ≡ checked (now file) ⌝ }
-    ensures { λ r. ⌜ (r ≡ answered (checked.Taken n m) (now (file .entry)) group (length (now (workspace .entry)))) × (now (workspace .exit) ≡ workspaceAfter (now (file .entry)) r (now (workspace .entry))) ⌝ }
+    ensures { λ r. ⌜
+        (r ≡ answered (checked.Taken n m) (now (file .entry)) group (length (now (workspace .entry))))
+        × (now (workspace .exit) ≡ workspaceAfter (now (file .entry)) r (now (workspace .entry))) ⌝ }
 {
     if taxa::size(group) < 2 {
         return Divided::Refused(Refusal {
@@ -81,7 +86,10 @@ fn split_matrix(file: &[u8], group: u64, n: usize, m: usize, workspace: &mut [i3
 
 // The operation "split".
 pub fn split(file: &[u8], group: u64, workspace: &mut [i32]) -> Divided
-    ensures { λ r. ⌜ (r ≡ divided (now (file .entry)) group (length (now (workspace .entry)))) × (returned r ≡ splitNumbers (now (file .entry)) group (length (now (workspace .entry)))) × (now (workspace .exit) ≡ workspaceAfter (now (file .entry)) r (now (workspace .entry))) ⌝ }
+    ensures { λ r. ⌜
+        (r ≡ divided (now (file .entry)) group (length (now (workspace .entry))))
+        × (returned r ≡ splitNumbers (now (file .entry)) group (length (now (workspace .entry))))
+        × (now (workspace .exit) ≡ workspaceAfter (now (file .entry)) r (now (workspace .entry))) ⌝ }
 {
     let answer = matrix::check(file);
     match answer {

@@ -44,7 +44,10 @@ fn write_answer(
     out: &mut [u8],
 ) -> Built
     requires { ⌜ Walked (now ones) (now zeros) (now after) (now off) n m (now walked) (now paid) k ⌝ }
-    ensures { λ r. ⌜ Answers (contentWith n m (ordered 64 n (groupsOf (now (walked .entry)) (now (paid .entry)) k)) (flipList m (entries (now (ones .entry)) (now (zeros .entry))) (entries (now (after .entry)) (now (off .entry))))) (now (out .entry)) r (now (out .exit)) ⌝ }
+    ensures { λ r. ⌜
+        Answers (contentWith n m (ordered 64 n (groupsOf (now (walked .entry)) (now (paid .entry)) k))
+        (flipList m (entries (now (ones .entry)) (now (zeros .entry))) (entries (now (after .entry)) (now (off .entry)))))
+        (now (out .entry)) r (now (out .exit)) ⌝ }
 {
     let mut taxa = [0u64; 63];
     let mut costs = [0u32; 63];
@@ -92,8 +95,13 @@ fn build_loaded(
     workspace: &mut [i32],
     out: &mut [u8],
 ) -> Built
-    requires { ⌜ Buildable (now file) n m (length (now workspace)) (length (now out)) × Slices m (now weights) (now ones) (now zeros) (now after) (now off) ⌝ }
-    ensures { λ r. ⌜ (r ≡ takenOf (now (file .entry))) × (now (out .exit) ≡ over (fileOf (contentFor (matrixIn (now (file .entry))))) 0 (now (out .entry))) × (now (workspace .exit) ≡ cleared (n * m) (now (workspace .entry))) ⌝ }
+    requires { ⌜
+        Buildable (now file) n m (length (now workspace)) (length (now out))
+        × Slices m (now weights) (now ones) (now zeros) (now after) (now off) ⌝ }
+    ensures { λ r. ⌜
+        (r ≡ takenOf (now (file .entry)))
+        × (now (out .exit) ≡ over (fileOf (contentFor (matrixIn (now (file .entry))))) 0 (now (out .entry)))
+        × (now (workspace .exit) ≡ cleared (n * m) (now (workspace .entry))) ⌝ }
 {
     columns::load(file, weights, ones, zeros);
     columns::load(file, weights, after, off);
@@ -120,7 +128,10 @@ fn build_loaded(
 // A matrix that is taken: the refusals of the workspace and of the output, and else the build.
 fn build_matrix(file: &[u8], n: u16, m: u16, workspace: &mut [i32], out: &mut [u8]) -> Built
     requires { ⌜ checked.Taken n m ≡ checked (now file) ⌝ }
-    ensures { λ r. ⌜ (r ≡ answered (checked.Taken n m) (now (file .entry)) (length (now (workspace .entry))) (length (now (out .entry)))) × (now (out .exit) ≡ outputAfter (now (file .entry)) r (now (out .entry))) × (now (workspace .exit) ≡ workspaceAfter (now (file .entry)) r (now (workspace .entry))) ⌝ }
+    ensures { λ r. ⌜
+        (r ≡ answered (checked.Taken n m) (now (file .entry)) (length (now (workspace .entry))) (length (now (out .entry))))
+        × (now (out .exit) ≡ outputAfter (now (file .entry)) r (now (out .entry)))
+        × (now (workspace .exit) ≡ workspaceAfter (now (file .entry)) r (now (workspace .entry))) ⌝ }
 {
     let columns = m as usize;
     if workspace.len() < n as usize * columns {
@@ -156,8 +167,12 @@ fn build_matrix(file: &[u8], n: u16, m: u16, workspace: &mut [i32], out: &mut [u
 
 // The operation "build".
 pub fn build(file: &[u8], workspace: &mut [i32], out: &mut [u8]) -> Built
-    ensures { λ r. ⌜ (r ≡ built (now (file .entry)) (length (now (workspace .entry))) (length (now (out .entry)))) × (returned r ≡ buildNumbers (now (file .entry)) (length (now (workspace .entry))) (length (now (out .entry)))) ⌝ }
-    ensures { λ r. ⌜ (now (out .exit) ≡ outputAfter (now (file .entry)) r (now (out .entry))) × (now (workspace .exit) ≡ workspaceAfter (now (file .entry)) r (now (workspace .entry))) ⌝ }
+    ensures { λ r. ⌜
+        (r ≡ built (now (file .entry)) (length (now (workspace .entry))) (length (now (out .entry))))
+        × (returned r ≡ buildNumbers (now (file .entry)) (length (now (workspace .entry))) (length (now (out .entry)))) ⌝ }
+    ensures { λ r. ⌜
+        (now (out .exit) ≡ outputAfter (now (file .entry)) r (now (out .entry)))
+        × (now (workspace .exit) ≡ workspaceAfter (now (file .entry)) r (now (workspace .entry))) ⌝ }
 {
     let answer = matrix::check(file);
     match answer {

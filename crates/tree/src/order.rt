@@ -22,7 +22,9 @@ pub fn put_group(
 ) -> usize
     requires { ⌜ (take ≡ true → (at < length (now taxa)) × (at < length (now costs))) ⌝ }
     ensures size { λ r. ⌜ r ≡ at + cond take 1 0 ⌝ }
-    ensures list { λ r. ⌜ groupsOf (now (taxa .exit)) (now (costs .exit)) r ≡ groupsOf (now (taxa .entry)) (now (costs .entry)) at ++ cond take (record { taxa = group; cost = cost } ∷ []) [] ⌝ }
+    ensures list { λ r. ⌜
+        groupsOf (now (taxa .exit)) (now (costs .exit)) r
+        ≡ groupsOf (now (taxa .entry)) (now (costs .entry)) at ++ cond take (record { taxa = group; cost = cost } ∷ []) [] ⌝ }
 {
     if take {
         taxa[at] = group;
@@ -49,9 +51,13 @@ fn keep_lowest(
     costs: &mut [u32],
     at: usize,
 ) -> usize
-    requires { ⌜ Room k (now walked) (now paid) × Room (at + length (kept (startsAt i) (groupsOf (now walked) (now paid) k))) (now taxa) (now costs) ⌝ }
+    requires { ⌜
+        Room k (now walked) (now paid)
+        × Room (at + length (kept (startsAt i) (groupsOf (now walked) (now paid) k))) (now taxa) (now costs) ⌝ }
     ensures size { λ r. ⌜ r ≡ at + length (kept (startsAt i) (groupsOf (now (walked .entry)) (now (paid .entry)) k)) ⌝ }
-    ensures list { λ r. ⌜ groupsOf (now (taxa .exit)) (now (costs .exit)) r ≡ groupsOf (now (taxa .entry)) (now (costs .entry)) at ++ kept (startsAt i) (groupsOf (now (walked .entry)) (now (paid .entry)) k) ⌝ }
+    ensures list { λ r. ⌜
+        groupsOf (now (taxa .exit)) (now (costs .exit)) r
+        ≡ groupsOf (now (taxa .entry)) (now (costs .entry)) at ++ kept (startsAt i) (groupsOf (now (walked .entry)) (now (paid .entry)) k) ⌝ }
 {
     let mut end = at;
     for g in 0usize..k {
@@ -103,7 +109,10 @@ fn put_flips(
 ) -> usize
     requires { ⌜ FlipRoom (at + 1) (now columns) (now raised) (now lowered) ⌝ }
     ensures size { λ r. ⌜ r ≡ at + cond (lists.unflipped up down) 0 1 ⌝ }
-    ensures list { λ r. ⌜ flipsIn (now (columns .exit)) (now (raised .exit)) (now (lowered .exit)) r ≡ flipsIn (now (columns .entry)) (now (raised .entry)) (now (lowered .entry)) at ++ cond (lists.unflipped up down) [] (record { column = column; raised = up; lowered = down } ∷ []) ⌝ }
+    ensures list { λ r. ⌜
+        flipsIn (now (columns .exit)) (now (raised .exit)) (now (lowered .exit)) r
+        ≡ flipsIn (now (columns .entry)) (now (raised .entry)) (now (lowered .entry)) at
+        ++ cond (lists.unflipped up down) [] (record { column = column; raised = up; lowered = down } ∷ []) ⌝ }
 {
     if unflipped(up, down) {
         return at;
@@ -125,9 +134,16 @@ pub fn list_flips(
     raised: &mut [u64],
     lowered: &mut [u64],
 ) -> usize
-    requires { ⌜ (m ≤ length (now ones)) × (m ≤ length (now zeros)) × (m ≤ length (now after)) × (m ≤ length (now off)) × FlipRoom m (now columns) (now raised) (now lowered) ⌝ }
+    requires { ⌜
+        (m ≤ length (now ones))
+        × (m ≤ length (now zeros))
+        × (m ≤ length (now after))
+        × (m ≤ length (now off))
+        × FlipRoom m (now columns) (now raised) (now lowered) ⌝ }
     ensures size { λ r. ⌜ r ≡ length (flipList m (entries (now (ones .entry)) (now (zeros .entry))) (entries (now (after .entry)) (now (off .entry)))) ⌝ }
-    ensures list { λ r. ⌜ flipsIn (now (columns .exit)) (now (raised .exit)) (now (lowered .exit)) r ≡ flipList m (entries (now (ones .entry)) (now (zeros .entry))) (entries (now (after .entry)) (now (off .entry))) ⌝ }
+    ensures list { λ r. ⌜
+        flipsIn (now (columns .exit)) (now (raised .exit)) (now (lowered .exit)) r
+        ≡ flipList m (entries (now (ones .entry)) (now (zeros .entry))) (entries (now (after .entry)) (now (off .entry))) ⌝ }
 {
     let mut end = 0;
     for c in 0usize..m {

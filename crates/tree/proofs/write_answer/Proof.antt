@@ -2,6 +2,8 @@
 use borrow.Author.Needs.{needs}
 use native.Mathlib.Omega.{arith}
 use mathlib.Core.Path.{_≡_, sym, ap, _∙_}
+use Prim.Native.Nat.{_≤_}
+use lib.ListN.{length}
 use Rattle.method.specs.Tree.{ordered, flipList, total}
 use Rattle.answer.specs.Content.{contentOf}
 use Rattle.answer.specs.Reading.{listed}
@@ -11,6 +13,29 @@ use Rattle.tree.proofs.Lists.{total-of, list-few}
 use Rattle.tree.proofs.Writing.{content-is, answers-as}
 use Rattle.tree.proofs.write_answer.Statement.{statement}
 use Rattle.tree.proofs.write_answer.Tie as tie
+
+-- ---- the way back from each call to the one before it
+
+abbrev begun : tie.After-in-order → tie.Start
+begun c = c .before .before .before .before .before .before .before .before .before .before
+
+abbrev put-in-order : tie.After-sum-costs → tie.After-in-order
+put-in-order c = c .before .before .before .before
+
+abbrev summed : tie.After-list-flips → tie.After-sum-costs
+summed c = c .before .before .before .before
+
+abbrev flips-listed : tie.After-slice-known2 → tie.After-list-flips
+flips-listed c = c .before .before .before .before .before .before .before .before .before .before
+
+-- The sum is the total of the groups in file order.
+sum-is : (c : tie.After-sum-costs) → let a = begun (put-in-order c) .args in c .sum-costs .result ≡ total (ordered 64 (a .n) (groupsOf (a .walked .now) (a .paid .now) (a .k)))
+sum-is c = let order = put-in-order c .in-order in c .sum-costs .ensures ∙ sym (total-of _ _ (order .result)) ∙ ap total (order .ensures .1)
+
+few-flips : (c : tie.Start) → length (flipList (c .args .m) (entries (c .args .ones .now) (c .args .zeros .now)) (entries (c .args .after .now) (c .args .off .now))) ≤ c .args .m
+few-flips c = let a = c .args in list-few (entries (a .ones .now) (a .zeros .now)) (entries (a .after .now) (a .off .now)) (a .m)
+
+-- ---- what the calls ask for
 
 slice-aggregate-in-order : tie.Need-slice-aggregate-in-order
 slice-aggregate-in-order c = search needs
@@ -26,10 +51,10 @@ slice-aggregate-sum-costs c = search needs
 
 sum-costs-requires : tie.Need-sum-costs-requires
 sum-costs-requires c κs =
-    let p = c .before .before .before .before .before .before .before .before .before .before .before .before .before .pre in
-    let o = c .before .before .before .in-order in
-    let total = ap total (sym (o .ensures .1)) ∙ total-of _ _ (o .result) in
-    (omega (arith, p .few, o .ensures .0), omega (arith, p .small, total))
+    let order = c .before .before .before in
+    let p = begun order .pre in
+    let total = ap total (sym (order .in-order .ensures .1)) ∙ total-of _ _ (order .in-order .result) in
+    (omega (arith, p .few, order .in-order .ensures .0), omega (arith, p .small, total))
 
 slice-aggregate-list-flips : tie.Need-slice-aggregate-list-flips
 slice-aggregate-list-flips c = search needs
@@ -48,8 +73,9 @@ cast-t37 c = search needs
 
 cast-t38 : tie.Need-cast-t38
 cast-t38 c =
-    let a = c .before .before .before .before .before .before .before .before .before .before .before .before .before .before .before .before .before .before .before .before .before .args in
-    omega (arith, c .before .before .before .list-flips .ensures .0, list-few (entries (a .ones .now) (a .zeros .now)) (entries (a .after .now) (a .off .now)) (a .m), c .before .before .before .before .before .before .before .before .before .before .before .before .before .before .before .before .before .before .before .before .before .pre .columns)
+    let flips = c .before .before .before in
+    let start = begun (put-in-order (summed flips)) in
+    omega (arith, flips .list-flips .ensures .0, few-flips start, start .pre .columns)
 
 slice-aggregate-write : tie.Need-slice-aggregate-write
 slice-aggregate-write c = search needs
@@ -73,30 +99,41 @@ same-length : tie.Need-same-length
 same-length c = search needs
 
 -- The value handed on holds the content of the two lists.
-content : (c : tie.After-slice-known2) → let a = c .before .before .before .before .before .before .before .before .before .before .before .before .before .before .before .before .before .before .before .before .before .before .before .before .before .before .before .before .args in
-    contentOf (record { n = a .n; m = a .m; groups = c .before .before .before .before .before .before .before .before .before .before .before .before .before .before .before .before .before .before .in-order .result; flips = c .before .before .before .before .before .before .before .before .before .before .list-flips .result; total = c .before .before .before .before .before .before .before .before .before .before .before .before .before .before .sum-costs .result; taxa = c .before .before .before .before .before .before .before .before .before .before .before .before .before .before .before .before .before .before .in-order .last .1 .1 .1 .1 .0; costs = c .before .before .before .before .before .before .before .before .before .before .before .before .before .before .before .before .before .before .in-order .last .1 .1 .1 .1 .1 .0 }) (c .before .before .before .before .before .before .before .before .before .before .list-flips .last .1 .1 .1 .1 .1 .0) (c .before .before .before .before .before .before .before .before .before .before .list-flips .last .1 .1 .1 .1 .1 .1 .0) (c .before .before .before .before .before .before .before .before .before .before .list-flips .last .1 .1 .1 .1 .1 .1 .1 .0)
+content : (c : tie.After-slice-known2) →
+    let flips = flips-listed c .list-flips in
+    let sum = summed (flips-listed c) in
+    let order = put-in-order sum .in-order in
+    let a = begun (put-in-order sum) .args in
+    contentOf (record { n = a .n; m = a .m; groups = order .result; flips = flips .result; total = sum .sum-costs .result; taxa = order .last .1 .1 .1 .1 .0; costs = order .last .1 .1 .1 .1 .1 .0 })
+    (flips .last .1 .1 .1 .1 .1 .0) (flips .last .1 .1 .1 .1 .1 .1 .0) (flips .last .1 .1 .1 .1 .1 .1 .1 .0)
     ≡ contentWith (a .n) (a .m) (ordered 64 (a .n) (groupsOf (a .walked .now) (a .paid .now) (a .k))) (flipList (a .m) (entries (a .ones .now) (a .zeros .now)) (entries (a .after .now) (a .off .now)))
 content c =
-    let a = c .before .before .before .before .before .before .before .before .before .before .before .before .before .before .before .before .before .before .before .before .before .before .before .before .before .before .before .before .args in
-    let p = c .before .before .before .before .before .before .before .before .before .before .before .before .before .before .before .before .before .before .before .before .before .before .before .before .before .before .before .before .pre in
-    let order = c .before .before .before .before .before .before .before .before .before .before .before .before .before .before .before .before .before .before .in-order in
-    let flips = c .before .before .before .before .before .before .before .before .before .before .list-flips in
-    let sum = c .before .before .before .before .before .before .before .before .before .before .before .before .before .before .sum-costs .ensures ∙ sym (total-of _ _ (order .result)) ∙ ap total (order .ensures .1) in
-    let few = list-few (entries (a .ones .now) (a .zeros .now)) (entries (a .after .now) (a .off .now)) (a .m) in
+    let flips = flips-listed c .list-flips in
+    let sum = summed (flips-listed c) in
+    let order = put-in-order sum .in-order in
+    let start = begun (put-in-order sum) in
+    let a = start .args in
+    let p = start .pre in
+    let few = few-flips start in
     content-is (a .n) (a .m)
     (record { taxa-room = omega (arith, p .few, order .ensures .0, order .kept .1 .1 .1 .1 .0); costs-room = omega (arith, p .few, order .ensures .0, order .kept .1 .1 .1 .1 .1 .0) })
     (order .ensures .0) (order .ensures .1)
-    (record { columns-room = omega (arith, p .columns, flips .ensures .0, flips .kept .1 .1 .1 .1 .1 .0); raised-room = omega (arith, p .columns, flips .ensures .0, flips .kept .1 .1 .1 .1 .1 .1 .0); lowered-room = omega (arith, p .columns, flips .ensures .0, flips .kept .1 .1 .1 .1 .1 .1 .1 .0) })
-    (flips .ensures .0) (flips .ensures .1) sum
+    (record {
+      columns-room = omega (arith, p .columns, flips .ensures .0, flips .kept .1 .1 .1 .1 .1 .0);
+      raised-room = omega (arith, p .columns, flips .ensures .0, flips .kept .1 .1 .1 .1 .1 .1 .0);
+      lowered-room = omega (arith, p .columns, flips .ensures .0, flips .kept .1 .1 .1 .1 .1 .1 .1 .0);
+    })
+    (flips .ensures .0) (flips .ensures .1) (sum-is sum)
 
-entries-all : (c : tie.After-slice-known2) → listed (c .before .before .before .before .before .before .before .before .before .before .list-flips .last .1 .1 .1 .1 .1 .0) (c .before .before .before .before .before .before .before .before .before .before .list-flips .last .1 .1 .1 .1 .1 .1 .0) (c .before .before .before .before .before .before .before .before .before .before .list-flips .last .1 .1 .1 .1 .1 .1 .1 .0) ≡ 256
-entries-all c = let kept = c .before .before .before .before .before .before .before .before .before .before .list-flips .kept in omega (arith, kept .1 .1 .1 .1 .1 .0, kept .1 .1 .1 .1 .1 .1 .0, kept .1 .1 .1 .1 .1 .1 .1 .0)
+entries-all : (c : tie.After-slice-known2) →
+    let flips = flips-listed c .list-flips in
+    listed (flips .last .1 .1 .1 .1 .1 .0) (flips .last .1 .1 .1 .1 .1 .1 .0) (flips .last .1 .1 .1 .1 .1 .1 .1 .0) ≡ 256
+entries-all c = let kept = flips-listed c .list-flips .kept in omega (arith, kept .1 .1 .1 .1 .1 .0, kept .1 .1 .1 .1 .1 .1 .0, kept .1 .1 .1 .1 .1 .1 .1 .0)
 
 returns : tie.Need-returns
 returns c =
     let at = c .before .before .before in
-    let sum = at .before .before .before .before .before .before .before .before .before .before .before .before .before .before .sum-costs .ensures ∙ sym (total-of _ _ _) ∙ ap total (at .before .before .before .before .before .before .before .before .before .before .before .before .before .before .before .before .before .before .in-order .ensures .1) in
-    answers-as (at .before .before .write .ensures) (content at) (entries-all at) (rw (c .before .written .given .1, sum))
+    answers-as (at .before .before .write .ensures) (content at) (entries-all at) (rw (c .before .written .given .1, sum-is (summed (flips-listed at))))
 
 same-length-2 : tie.Need-same-length-2
 same-length-2 c = search needs

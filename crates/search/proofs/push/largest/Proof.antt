@@ -48,7 +48,7 @@ loop-again c = let r = c .before .advance2 .ensures in (r .0 .stage, kept-then (
 kept : (c : tie.Else1 Inv-loop μ-loop) → Kept (c .before .before .before .before .before .before .before .before .before .before .before .args .n * c .before .before .before .before .before .before .before .before .before .before .before .args .m) (c .before .before .before .before .before .before .before .before .before .before .before .args .ws .now) (c .before .before .loop .ws)
 kept c =
     let a = c .before .before .before .before .before .before .before .before .before .before .before .args in
-    kept-then (rw (c .before .before .before .before .before .before .before .before .clear .ensures) (cleared-kept (a .n * a .m) (a .ws .now) (c .before .before .before .before .before .before .before .before .before .before .before .pre .1))) (kept-then (c .before .before .before .before .advance .ensures .1) (c .before .before .loop .inv .1))
+    kept-then (cleared-kept (a .ws .now) (c .before .before .before .before .before .before .before .before .clear .ensures) (c .before .before .before .before .before .before .before .before .before .before .before .pre .1)) (kept-then (c .before .before .before .before .advance .ensures .1) (c .before .before .loop .inv .1))
 
 same-length : tie.Need-same-length Inv-loop μ-loop
 same-length c = kept c .long
