@@ -1,5 +1,5 @@
 -- The value that is handed to the writing of answers holds the content that the lists of groups and flips make (`content-is`).
-use mathlib.Core.Path.{_≡_, refl, ap, _∙_}
+use mathlib.Core.Path.{_≡_, refl, sym, ap, _∙_}
 use mathlib.Core.List.{List, map}
 use Prim.Native.Nat.{ℕ, _≤_}
 use lib.ListN.{length}
@@ -31,7 +31,8 @@ module _ {ts cs ns us ds : List ℕ} {g f t : ℕ} {gs : List Group} {fs : List 
   }
 
 -- What writing answers is what the build answers.
-pub answers-as : {c c′ : Content} {entries : ℕ} {out out′ : List ℕ} {w : Written} {r : Built} → Writes c′ entries out w out′ → c′ ≡ c → entries ≡ 256 → r ≡ writtenAs c w → Answers c out r out′
-answers-as {c} {out = out} h e n is =
+pub answers-as : {c c′ : Content} {entries : ℕ} {out out′ : List ℕ} {w w′ : Written} {r : Built} → Writes c′ entries out w out′ → c′ ≡ c → entries ≡ 256 → w ≡ w′ → r ≡ writtenAs c w′
+    → Answers c out r out′
+answers-as {c} {out = out} h e n case is =
     let w = rw (e, n) at (h .answers) in
-    record { answers = is ∙ ap (writtenAs c) w; output = rw (e, w) at (h .out-after) }
+    record { answers = is ∙ ap (writtenAs c) (sym case ∙ w); output = rw (e, w) at (h .out-after) }

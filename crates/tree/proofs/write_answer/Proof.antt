@@ -1,12 +1,13 @@
 -- `tree::write_answer` meets its contract: the value handed to the writing of answers holds the content of the two lists.
 use borrow.Author.Needs.{needs}
 use native.Mathlib.Omega.{arith}
-use mathlib.Core.Path.{_≡_, sym, ap, _∙_}
+use mathlib.Core.Path.{_≡_, refl, sym, ap, _∙_}
 use Prim.Native.Nat.{_≤_}
 use lib.ListN.{length}
 use Rattle.method.specs.Tree.{ordered, flipList, total}
 use Rattle.answer.specs.Content.{contentOf}
 use Rattle.answer.specs.Reading.{listed}
+use Rattle.tree.specs.declared.Built.the-variants.{Taken}
 use Rattle.tree.specs.Lists.{groupsOf, entries}
 use Rattle.tree.specs.Build.{contentWith}
 use Rattle.tree.proofs.Lists.{total-of, list-few}
@@ -133,7 +134,7 @@ entries-all c = let kept = flips-listed c .list-flips .kept in omega (arith, kep
 returns : tie.Need-returns
 returns c =
     let at = c .before .before .before in
-    answers-as (at .before .before .write .ensures) (content at) (entries-all at) (rw (c .before .written .given .1, sum-is (summed (flips-listed at))))
+    answers-as (at .before .before .write .ensures) (content at) (entries-all at) (c .before .written .given .1) (ap (Taken (c .before .written .given .0 .0)) (sum-is (summed (flips-listed at))))
 
 same-length-2 : tie.Need-same-length-2
 same-length-2 c = search needs
@@ -141,7 +142,7 @@ same-length-2 c = search needs
 returns-2 : tie.Need-returns-2
 returns-2 c =
     let at = c .before .before .before in
-    answers-as (at .before .before .write .ensures) (content at) (entries-all at) (rw (c .before .written2 .given .1))
+    answers-as (at .before .before .write .ensures) (content at) (entries-all at) (c .before .written2 .given .1) refl
 
 pub write-answer-spec : {M : Type 1} → statement M
 write-answer-spec =
