@@ -4,9 +4,10 @@ use borrow.Author.Tests.{not-true, not-false}
 use native.Mathlib.Omega.{arith}
 use mathlib.Core.Bool.{true}
 use mathlib.Core.Path.{_≡_, refl, sym, _∙_}
-use Prim.Native.Nat.{_*_}
+use Prim.Native.Nat.{_+_, _*_, _<_}
 use Rattle.taxa.specs.Sets.{has}
-use Rattle.search.specs.Reaching.{turnOf}
+use Rattle.search.specs.Flows.{Advanced}
+use Rattle.search.specs.Reaching.{widthOf, turnOf}
 use Rattle.search.proofs.Workspace.{kept-none}
 use Rattle.search.proofs.Flows.{Under, under-start, under-low, not-root, is-root, under-turn, can-hop, under-step, stayed, went, size-small}
 use Rattle.search.proofs.push.advance.Statement.{statement}
@@ -19,46 +20,58 @@ Inv-loop weights joined limits n m ws₀ used₀ s t size tree goal met d j₀ w
 abbrev μ-loop : tie.MeasureT-loop
 μ-loop weights joined limits n m ws₀ used₀ s t size tree goal met d j₀ ws used j = turnOf tree j
 
+-- The way back from the test of t to the start.
+abbrev begun : tie.Else1 Inv-loop μ-loop → tie.Start Inv-loop μ-loop
+begun c = c .before .before .before .before .before .before .before .before
+
+-- t is one of 64 taxa.
+t-low : (c : tie.Start Inv-loop μ-loop) → c .args .t < 64
+t-low c = omega (arith, c .pre .sink, c .pre .ready .net .taxa)
+
 cast-single : tie.Need-cast-single Inv-loop μ-loop
-cast-single c = let f = c .before .pre in omega (arith, f .sink, f .ready .net .taxa)
+cast-single c = omega (arith, t-low (c .before))
 
 single-requires : tie.Need-single-requires Inv-loop μ-loop
-single-requires c κs = let f = c .before .pre in omega (arith, f .sink, f .ready .net .taxa)
+single-requires c κs = omega (arith, t-low (c .before))
 
 reach-requires : tie.Need-reach-requires Inv-loop μ-loop
-reach-requires c κs = (c .before .before .before .before .before .pre .ready, refl, c .before .before .before .before .before .pre .source)
+reach-requires c κs = let p = c .before .before .before .before .before .pre in (p .ready, refl, p .source)
 
 cast-contains : tie.Need-cast-contains Inv-loop μ-loop
-cast-contains c = let f = c .before .before .before .before .before .before .pre in omega (arith, f .sink, f .ready .net .taxa)
+cast-contains c = omega (arith, t-low (c .before .before .before .before .before .before))
 
 contains-requires : tie.Need-contains-requires Inv-loop μ-loop
-contains-requires c κs = let f = c .before .before .before .before .before .before .pre in omega (arith, f .sink, f .ready .net .taxa)
+contains-requires c κs = omega (arith, t-low (c .before .before .before .before .before .before))
 
 same-length : tie.Need-same-length Inv-loop μ-loop
 same-length c = search needs
 
 returns : tie.Need-returns Inv-loop μ-loop
 returns c =
-    let a = c .before .before .before .before .before .before .before .before .args in
-    (stayed (c .before .before .before .before .before .before .before .before .pre) (c .before .before .reach .ensures) (c .before .before .before .before .before .before .single .ensures) (sym (c .before .contains .ensures) ∙ not-true (c .before .contains .result) (c .if1 .taken)), kept-none (a .n * a .m) (a .ws .now))
+    let contains = c .before in
+    let reach = contains .before in
+    let start = c .before .before .before .before .before .before .before .before in (
+      stayed (start .pre) (reach .reach .ensures) (reach .before .before .before .before .single .ensures) (sym (contains .contains .ensures) ∙ not-true (contains .contains .result) (c .if1 .taken)),
+      kept-none (start .args .n * start .args .m) (start .args .ws .now),
+    )
 
 mul-d : tie.Need-mul-d Inv-loop μ-loop
-mul-d c = let f = c .before .before .before .before .before .before .before .before .pre in omega (arith, f .sink, f .ready .net .taxa)
+mul-d c = omega (arith, t-low (begun c))
 
 add-d : tie.Need-add-d Inv-loop μ-loop
-add-d c = let f = c .before .before .before .before .before .before .before .before .pre in omega (arith, f .sink, f .ready .net .taxa)
+add-d c = omega (arith, t-low (begun c))
 
 mul-d-2 : tie.Need-mul-d-2 Inv-loop μ-loop
-mul-d-2 c = let f = c .before .before .before .before .before .before .before .before .pre in omega (arith, f .sink, f .ready .net .taxa)
+mul-d-2 c = omega (arith, t-low (begun c))
 
 array-read-d : tie.Need-array-read-d Inv-loop μ-loop
-array-read-d c = let f = c .before .before .before .before .before .before .before .before .pre in omega (arith, f .sink, f .ready .net .taxa)
+array-read-d c = omega (arith, t-low (begun c))
 
-reached : (c : tie.Else1 Inv-loop μ-loop) → has (c .before .before .reach .result) (c .before .before .before .before .before .before .before .before .args .t) ≡ true
+reached : (c : tie.Else1 Inv-loop μ-loop) → has (c .before .before .reach .result) (begun c .args .t) ≡ true
 reached c = sym (c .before .contains .ensures) ∙ not-false (c .before .contains .result) (c .if1 .left)
 
 loop-holds : tie.Need-loop-holds Inv-loop μ-loop
-loop-holds c = under-start (c .before .before .before .before .before .before .before .before .pre) (c .before .before .reach .ensures) (reached c) (omega arith)
+loop-holds c = under-start (begun c .pre) (c .before .before .reach .ensures) (reached c) (omega arith)
 
 mul-loop : tie.Need-mul-loop Inv-loop μ-loop
 mul-loop c = omega (arith, under-low (c .loop .inv))
@@ -100,29 +113,47 @@ index-requires-2 : tie.Need-index-requires-2 Inv-loop μ-loop
 index-requires-2 c κs = search needs
 
 step-requires : tie.Need-step-requires Inv-loop μ-loop
-step-requires c κs = let u = c .before .before .before .before .before .loop .inv in rw (c .before .before .before .index .ensures, c .before .before .index2 .ensures) (can-hop u (not-root u (c .before .before .before .before .loop-test .taken)))
+step-requires c κs =
+    let at = c .before .before .before .before in
+    let u = at .before .loop .inv in
+    rw (c .before .before .before .index .ensures, c .before .before .index2 .ensures) (can-hop u (not-root u (at .loop-test .taken)))
 
 loop-less : tie.Need-loop-less Inv-loop μ-loop
-loop-less c = let u = c .before .before .before .before .before .before .before .loop .inv in rw (c .before .before .before .before .before .index .ensures) (under-turn u (not-root u (c .before .before .before .before .before .before .loop-test .taken)))
+loop-less c =
+    let at = c .before .before .before .before .before .before in
+    let u = at .before .loop .inv in
+    rw (c .before .before .before .before .before .index .ensures) (under-turn u (not-root u (at .loop-test .taken)))
 
 loop-again : tie.Need-loop-again Inv-loop μ-loop
 loop-again c =
-    let u = c .before .before .before .before .before .before .before .loop .inv in
-    let h = rw (c .before .before .before .before .before .index .ensures, c .before .before .before .before .index2 .ensures) at (c .before .step .ensures) in
-    rw (c .before .before .before .before .before .index .ensures) (under-step u (not-root u (c .before .before .before .before .before .before .loop-test .taken)) (h .0) (h .1) (h .2))
+    let at = c .before .before .before .before .before .before in
+    let u = at .before .loop .inv in
+    let index = c .before .before .before .before .before .index .ensures in
+    let h = rw (index, c .before .before .before .before .index2 .ensures) at (c .before .step .ensures) in
+    rw index (under-step u (not-root u (at .loop-test .taken)) (h .0) (h .1) (h .2))
 
 -- The loop ends at s.
-ends : (c : tie.After-loop Inv-loop μ-loop) → c .before .loop .j ≡ c .before .before .before .before .before .before .before .before .before .before .args .s
+ends : (c : tie.After-loop Inv-loop μ-loop) → c .before .loop .j ≡ begun (c .before .before) .args .s
 ends c = is-root (c .before .loop .inv) (omega arith)
 
+-- All of the path has been pushed.
+pushed : (c : tie.After-loop Inv-loop μ-loop) →
+    let a = begun (c .before .before) .args in
+    let r = c .before .before .before .before .reach in
+    Advanced (a .weights .now) (a .joined .now) (a .limits .now) (a .n) (a .m) (c .before .loop .ws) (c .before .loop .used) (a .s) (a .t) (a .size)
+    (a .size + widthOf (r .last .1 .1 .1 .1 .1 .1 .1 .0) (a .t)) (r .result)
+pushed c =
+    let x = c .before .before in
+    went (rw (ends c) at (c .before .loop .inv)) (reached x) (x .before .before .reach .ensures .tree .link (begun x .args .t) (reached x) (begun x .pre .apart) .some)
+
 add-t18 : tie.Need-add-t18 Inv-loop μ-loop
-add-t18 c = let w = went (rw (ends c) at (c .before .loop .inv)) (reached (c .before .before)) (c .before .before .before .before .reach .ensures .tree .link (c .before .before .before .before .before .before .before .before .before .before .args .t) (reached (c .before .before)) (c .before .before .before .before .before .before .before .before .before .before .pre .apart) .some) in omega (arith, size-small (w .stage .flowing))
+add-t18 c = omega (arith, size-small (pushed c .stage .flowing))
 
 same-length-2 : tie.Need-same-length-2 Inv-loop μ-loop
 same-length-2 c = c .before .loop .inv .kept .long
 
 returns-2 : tie.Need-returns-2 Inv-loop μ-loop
-returns-2 c = (went (rw (ends c) at (c .before .loop .inv)) (reached (c .before .before)) (c .before .before .before .before .reach .ensures .tree .link (c .before .before .before .before .before .before .before .before .before .before .args .t) (reached (c .before .before)) (c .before .before .before .before .before .before .before .before .before .before .pre .apart) .some), c .before .loop .inv .kept)
+returns-2 c = (pushed c, c .before .loop .inv .kept)
 
 pub advance-spec : {M : Type 1} → statement M
 advance-spec =

@@ -18,6 +18,10 @@ Inv-loop weights joined limits n m ws₀ s t bound used₀ cut₀ ws used cut =
 abbrev μ-loop : tie.MeasureT-loop
 μ-loop weights joined limits n m ws₀ s t bound used₀ cut₀ ws used cut = rest-of (cut .size) (has (cut .side) t)
 
+-- The way back from the loop to the start.
+abbrev begun : tie.At-loop Inv-loop μ-loop → tie.Start Inv-loop μ-loop
+begun c = c .before .before .before .before .before .before .before .before .before
+
 mul-clear : tie.Need-mul-clear Inv-loop μ-loop
 mul-clear c = let z = c .before .before .pre .0 in omega (arith, z .taxa, z .columns, mul-le-mul-right (c .before .before .args .m) (z .taxa))
 
@@ -25,38 +29,45 @@ clear-requires : tie.Need-clear-requires Inv-loop μ-loop
 clear-requires c κs = search needs
 
 advance-requires : tie.Need-advance-requires Inv-loop μ-loop
-advance-requires c κs = let p = c .before .before .before .before .before .before .pre in rw (c .before .before .before .clear .ensures) (no-flow (p .0) (c .before .before .before .before .before .before .args .ws .now) (p .1) (p .2) (p .3) (p .4))
+advance-requires c κs =
+    let start = c .before .before .before .before .before .before in
+    let p = start .pre in
+    rw (c .before .before .before .clear .ensures) (no-flow (p .0) (start .args .ws .now) (p .1) (p .2) (p .3) (p .4))
 
 loop-holds : tie.Need-loop-holds Inv-loop μ-loop
-loop-holds c = (c .before .advance .ensures .0 .stage, kept-none (c .before .before .before .before .before .before .before .before .args .n * c .before .before .before .before .before .before .before .before .args .m) (c .before .advance .last .1 .1 .1 .1 .1 .0))
+loop-holds c = let a = c .before .before .before .before .before .before .before .before .args in (c .before .advance .ensures .0 .stage, kept-none (a .n * a .m) (c .before .advance .last .1 .1 .1 .1 .1 .0))
 
 grows-requires : tie.Need-grows-requires Inv-loop μ-loop
-grows-requires c κs = let p = c .before .before .before .before .before .before .before .before .before .pre in omega (arith, p .3, p .0 .taxa)
+grows-requires c κs = let p = begun c .pre in omega (arith, p .3, p .0 .taxa)
 
 advance-requires-2 : tie.Need-advance-requires-2 Inv-loop μ-loop
 advance-requires-2 c κs = c .before .before .before .before .loop .inv .0 .flowing
 
 loop-less : tie.Need-loop-less Inv-loop μ-loop
 loop-less c =
-    let v = c .before .before .before .before .before .before .loop .cut in
-    let r = c .before .advance2 .ensures .0 in
-    falls (v .size) (c .before .advance2 .result .size) (has (v .side) (c .before .before .before .before .before .before .before .before .before .before .before .before .before .before .before .args .t)) (has (c .before .advance2 .result .side) (c .before .before .before .before .before .before .before .before .before .before .before .before .before .before .before .args .t)) (c .before .before .before .before .before .grows .ensures .0 (c .before .before .before .before .if1 .taken)) (r .more) (r .pushed) (size-small (r .stage .flowing))
+    let grows = c .before .before .before .before .before in
+    let v = grows .before .loop .cut in
+    let t = begun (grows .before) .args .t in
+    let r = c .before .advance2 .result in
+    let h = c .before .advance2 .ensures .0 in
+    falls (v .size) (r .size) (has (v .side) t) (has (r .side) t) (grows .grows .ensures .0 (c .before .before .before .before .if1 .taken)) (h .more) (h .pushed) (size-small (h .stage .flowing))
 
 loop-again : tie.Need-loop-again Inv-loop μ-loop
 loop-again c = let r = c .before .advance2 .ensures in (r .0 .stage, kept-then (c .before .before .before .before .before .before .loop .inv .1) (r .1))
 
-kept : (c : tie.Else1 Inv-loop μ-loop) → Kept (c .before .before .before .before .before .before .before .before .before .before .before .args .n * c .before .before .before .before .before .before .before .before .before .before .before .args .m) (c .before .before .before .before .before .before .before .before .before .before .before .args .ws .now) (c .before .before .loop .ws)
+kept : (c : tie.At-loop Inv-loop μ-loop) → let a = begun c .args in Kept (a .n * a .m) (a .ws .now) (c .loop .ws)
 kept c =
-    let a = c .before .before .before .before .before .before .before .before .before .before .before .args in
-    kept-then (cleared-kept (a .ws .now) (c .before .before .before .before .before .before .before .before .clear .ensures) (c .before .before .before .before .before .before .before .before .before .before .before .pre .1)) (kept-then (c .before .before .before .before .advance .ensures .1) (c .before .before .loop .inv .1))
+    let start = begun c in
+    let clear = c .before .before .before .before .before .before .clear .ensures in
+    kept-then (cleared-kept (start .args .ws .now) clear (start .pre .1)) (kept-then (c .before .before .advance .ensures .1) (c .loop .inv .1))
 
 same-length : tie.Need-same-length Inv-loop μ-loop
-same-length c = kept c .long
+same-length c = kept (c .before .before) .long
 
 returns : tie.Need-returns Inv-loop μ-loop
 returns c =
     let v = c .before .before .loop .inv .0 in
-    (record { flow = v .flowing .flow; small = size-small (v .flowing); side = v .side; stops = c .before .grows .ensures .1 (c .if1 .left) }, kept c)
+    (record { flow = v .flowing .flow; small = size-small (v .flowing); side = v .side; stops = c .before .grows .ensures .1 (c .if1 .left) }, kept (c .before .before))
 
 pub largest-spec : {M : Type 1} → statement M
 largest-spec =

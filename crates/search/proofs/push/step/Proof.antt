@@ -11,6 +11,13 @@ use Rattle.search.proofs.Flows.{count-after, entries-few, counted}
 use Rattle.search.proofs.push.step.Statement.{statement}
 use Rattle.search.proofs.push.step.Tie as tie
 
+-- The way back from the last reading to the hop, and to the start.
+abbrev hopped : tie.After-out-in4 → tie.After-hop
+hopped c = c .before .before .before .before .before
+
+abbrev begun : tie.After-hop → tie.Start
+begun c = c .before .before .before .before .before .before
+
 out-in-requires : tie.Need-out-in-requires
 out-in-requires c κs = can-send (c .before .pre .0) .from
 
@@ -24,29 +31,33 @@ hop-requires : tie.Need-hop-requires
 hop-requires c κs = search needs
 
 out-in-requires-3 : tie.Need-out-in-requires-3
-out-in-requires-3 c κs = omega (arith, can-send (c .before .before .before .before .before .before .before .before .pre .0) .from, c .before .before .hop .ensures .1 .long)
+out-in-requires-3 c κs = omega (arith, can-send (begun (c .before .before) .pre .0) .from, c .before .before .hop .ensures .1 .long)
 
 out-in-requires-4 : tie.Need-out-in-requires-4
-out-in-requires-4 c κs = omega (arith, can-send (c .before .before .before .before .before .before .before .before .before .before .pre .0) .to, c .before .before .before .before .hop .ensures .1 .long)
+out-in-requires-4 c κs = let h = c .before .before .before .before in omega (arith, can-send (begun h .pre .0) .to, h .hop .ensures .1 .long)
 
 few : (c : tie.After-out-in4) → c .before .before .out-in3 .result + c .out-in4 .result < 2 ^ 26
 few c =
-    let p = c .before .before .before .before .before .before .before .before .before .before .before .pre in
+    let p = begun (hopped c) .pre in
     let e = entries-few (p .0) (p .1) in
-    let h = c .before .before .before .before .before .hop .ensures .0 .here in
+    let h = hopped c .hop .ensures .0 .here in
     omega (arith, e .0, e .1, p .1 .little, h .from-out, h .to-out, c .before .before .out-in3 .ensures, c .out-in4 .ensures)
 
 -- The count before and the two entries after are the count after and the two entries before.
-balance : (c : tie.After-used) → let a = c .before .before .before .before .before .before .before .before .before .before .before .before .args in
-    sum (a .n) (outs (c .before .before .before .before .before .before .hop .last .0) (a .n) (a .c)) + (c .before .before .before .before .before .before .before .before .before .before .out-in .result + c .before .before .before .before .before .before .before .before .out-in2 .result) ≡ nth (a .used .now) (a .c) + (c .before .before .before .out-in3 .result + c .before .out-in4 .result)
+balance : (c : tie.After-used) →
+    let h = hopped (c .before) in
+    let a = begun h .args in
+    sum (a .n) (outs (h .hop .last .0) (a .n) (a .c)) + (h .before .before .before .before .out-in .result + h .before .before .out-in2 .result)
+    ≡ nth (a .used .now) (a .c) + (c .before .before .before .out-in3 .result + c .before .out-in4 .result)
 balance c =
-    let p = c .before .before .before .before .before .before .before .before .before .before .before .before .pre in
+    let h = hopped (c .before) in
+    let p = begun h .pre in
     omega (
       arith,
-      count-after (c .before .before .before .before .before .before .before .before .before .before .before .before .args .n) (c .before .before .before .before .before .before .hop .ensures .0 .here) (p .0 .from) (p .0 .to) (p .0 .apart),
+      count-after (begun h .args .n) (h .hop .ensures .0 .here) (p .0 .from) (p .0 .to) (p .0 .apart),
       p .1 .is,
-      c .before .before .before .before .before .before .before .before .before .before .out-in .ensures,
-      c .before .before .before .before .before .before .before .before .out-in2 .ensures,
+      h .before .before .before .before .out-in .ensures,
+      h .before .before .out-in2 .ensures,
       c .before .before .before .out-in3 .ensures,
       c .before .out-in4 .ensures,
     )
@@ -61,7 +72,7 @@ element-copy-out-used : tie.Need-element-copy-out-used
 element-copy-out-used c = search needs
 
 add-used : tie.Need-add-used
-add-used c = let p = c .before .before .before .before .before .before .before .before .before .before .before .before .pre in omega (arith, few (c .before), p .1 .few)
+add-used c = omega (arith, few (c .before), begun (hopped (c .before)) .pre .1 .few)
 
 sub-used : tie.Need-sub-used
 sub-used c = omega (arith, balance c)
@@ -77,9 +88,10 @@ same-length c = search needs
 
 returns : tie.Need-returns
 returns c =
-    let a = c .before .before .before .before .before .before .before .before .before .before .before .before .args in
-    let p = c .before .before .before .before .before .before .before .before .before .before .before .before .pre in
-    let h = c .before .before .before .before .before .before .hop .ensures in
+    let start = begun (hopped (c .before)) in
+    let a = start .args in
+    let p = start .pre in
+    let h = hopped (c .before) .hop .ensures in
     (h .0, h .1, counted (a .n) (a .used .now) (a .c) (p .1 .counts) (p .1 .column) (omega (arith, balance c)))
 
 pub step-spec : {M : Type 1} → statement M

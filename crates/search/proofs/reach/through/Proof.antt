@@ -3,7 +3,7 @@ use borrow.Author.Needs.{needs}
 use native.Mathlib.Omega.{arith}
 use mathlib.Core.Path.{_≡_, sym, ap, _∙_}
 use mathlib.Core.Bool.{true, false}
-use Prim.Native.Nat.{ℕ, _^_, min}
+use Prim.Native.Nat.{ℕ, _^_, _<_, min}
 use Rattle.taxa.specs.Sets.{has, _∖_}
 use Rattle.taxa.proofs.Counts.{count-le}
 use Rattle.search.specs.Network.{nth}
@@ -19,6 +19,17 @@ Inv-loop weights joined limits n m ws used tree₀ s met done i c g stamp all₀
 abbrev μ-loop : tie.MeasureT-loop
 μ-loop weights joined limits n m ws used tree₀ s met done i c g stamp all₀ left₀ tree all left = left
 
+-- The way back from the loop to the gate, and to the start.
+abbrev begun : tie.After-gate-at Inv-loop μ-loop → tie.Start Inv-loop μ-loop
+begun c = c .before .before
+
+abbrev gate : tie.At-loop Inv-loop μ-loop → tie.After-gate-at Inv-loop μ-loop
+gate c = c .before .before .before .before .before .before
+
+-- i is one of 64 taxa.
+i-low : (c : tie.Start Inv-loop μ-loop) → c .args .i < 64
+i-low c = omega (arith, low-i (c .pre .1), c .pre .0 .net .taxa)
+
 gate-at-requires : tie.Need-gate-at-requires Inv-loop μ-loop
 gate-at-requires c κs =
     let p = c .before .pre in
@@ -26,8 +37,9 @@ gate-at-requires c κs =
 
 returns : tie.Need-returns Inv-loop μ-loop
 returns c =
-    let p = c .before .before .before .before .pre in
-    pass-shut (p .1) (c .before .before .before .before .args .c) (sym (gate-up (p .0) (p .2) (c .before .before .gate-at .ensures) (p .3)) ∙ c .if1 .taken)
+    let g = c .before .before in
+    let p = begun g .pre in
+    pass-shut (p .1) (begun g .args .c) (sym (gate-up (p .0) (p .2) (g .gate-at .ensures) (p .3)) ∙ c .if1 .taken)
 
 size-requires : tie.Need-size-requires Inv-loop μ-loop
 size-requires c κs = search needs
@@ -46,8 +58,9 @@ difference-requires c κs = search needs
 
 loop-holds : tie.Need-loop-holds Inv-loop μ-loop
 loop-holds c =
-    let a = c .before .before .before .before .before .before .before .args in
-    let p = c .before .before .before .before .before .before .before .pre in
+    let start = begun (c .before .before .before .before .before) in
+    let a = start .args in
+    let p = start .pre in
     rw (c .difference .ensures) (off-in (nth (a .joined .now) (a .c)) (a .met), pass-start (p .1) (a .c) (p .0) (p .2))
 
 lowest-requires : tie.Need-lowest-requires Inv-loop μ-loop
@@ -58,29 +71,31 @@ cast-j c = search needs
 
 carry-to-requires : tie.Need-carry-to-requires Inv-loop μ-loop
 carry-to-requires c κs =
-    let p = c .before .before .before .before .before .before .before .before .before .before .pre in
+    let g = gate (c .before .before) in
+    let p = begun g .pre in
     let h = c .before .before .loop .inv .0 (c .lowest .result) (c .lowest .ensures .2 .is) in
-    rw (c .before .before .before .before .before .before .before .before .gate-at .ensures .is-weight) (p .0 .net .light (c .before .before .before .before .before .before .before .before .before .before .args .c) (p .2), entry (p .0) (p .2) (c .lowest .result) (h .0))
+    rw (g .gate-at .ensures .is-weight) (p .0 .net .light (begun g .args .c) (p .2), entry (p .0) (p .2) (c .lowest .result) (h .0))
 
 mul-least : tie.Need-mul-least Inv-loop μ-loop
-mul-least c = let p = c .before .before .before .before .before .before .before .before .before .before .before .pre in omega (arith, low-i (p .1), p .0 .net .taxa)
+mul-least c = omega (arith, i-low (begun (gate (c .before .before .before))))
 
 add-least : tie.Need-add-least Inv-loop μ-loop
-add-least c = let p = c .before .before .before .before .before .before .before .before .before .before .before .pre in omega (arith, low-i (p .1), p .0 .net .taxa)
+add-least c = omega (arith, i-low (begun (gate (c .before .before .before))))
 
 mul-least-2 : tie.Need-mul-least-2 Inv-loop μ-loop
-mul-least-2 c = let p = c .before .before .before .before .before .before .before .before .before .before .before .pre in omega (arith, low-i (p .1), p .0 .net .taxa)
+mul-least-2 c = omega (arith, i-low (begun (gate (c .before .before .before))))
 
 element-copy-out-least : tie.Need-element-copy-out-least Inv-loop μ-loop
-element-copy-out-least c = let p = c .before .before .before .before .before .before .before .before .before .before .before .pre in omega (arith, low-i (p .1), p .0 .net .taxa)
+element-copy-out-least c = omega (arith, i-low (begun (gate (c .before .before .before))))
 
 least-requires : tie.Need-least-requires Inv-loop μ-loop
 least-requires c κs = search needs
 
 offer-requires : tie.Need-offer-requires Inv-loop μ-loop
 offer-requires c κs =
-    let p = c .before .before .before .before .before .before .before .before .before .before .before .before .before .before .pre in
-    (c .before .before .before .before .lowest .ensures .1, omega (arith, low-i (p .1), p .0 .net .taxa), omega (arith, p .2, p .0 .net .columns), c .before .before .before .before .before .before .loop .inv .1 .tree .long)
+    let l = c .before .before .before .before in
+    let start = begun (gate (l .before .before)) in
+    (l .lowest .ensures .1, i-low start, omega (arith, start .pre .2, start .pre .0 .net .columns), l .before .before .loop .inv .1 .tree .long)
 
 rest-requires : tie.Need-rest-requires Inv-loop μ-loop
 rest-requires c κs = search needs
@@ -90,16 +105,19 @@ loop-less c = c .rest .ensures .1
 
 loop-again : tie.Need-loop-again Inv-loop μ-loop
 loop-again c =
-    let p = c .before .before .before .before .before .before .before .before .before .before .before .before .before .before .before .before .pre in
-    let v = c .before .before .before .before .before .before .before .before .loop in
+    let at = c .before .before .before .before .before .before .before .before in
+    let g = gate at in
+    let a = begun g .args in
+    let p = begun g .pre in
+    let v = at .loop in
     let l = c .before .before .before .before .before .before .lowest in
     let j = l .result in
-    let o = rw (c .before .before .before .before .before .before .before .before .before .before .before .size .ensures) at (c .before .offer .ensures) in
+    let o = rw (at .before .before .before .size .ensures) at (c .before .offer .ensures) in
     let h = v .inv .0 j (l .ensures .2 .is) in
     let q : c .rest .result ≡ v .left ∖ 2 ^ j = c .rest .ensures .0 ∙ ap (λ (y : ℕ). v .left ∖ 2 ^ y) (sym (l .ensures .0)) in
-    let k = c .before .before .before .least .ensures ∙ ap (λ (x : ℕ). min x (widthOf (v .tree) (c .before .before .before .before .before .before .before .before .before .before .before .before .before .before .before .before .args .i))) (c .before .before .before .before .before .carry-to .ensures ∙ gate-carry (p .0) (p .2) (c .before .before .before .before .before .before .before .before .before .before .before .before .before .before .gate-at .ensures) (p .3) j (h .0)) in (
+    let k = c .before .before .before .least .ensures ∙ ap (λ (x : ℕ). min x (widthOf (v .tree) (a .i))) (c .before .before .before .before .before .carry-to .ensures ∙ gate-carry (p .0) (p .2) (g .gate-at .ensures) (p .3) j (h .0)) in (
       λ x y. let z = still-in (v .left) j x (ap (λ (u : ℕ). has u x) (sym q) ∙ y) in (v .inv .0 x (z .0) .0, others o x (z .1) ∙ v .inv .0 x (z .0) .1),
-      pass-one (v .inv .1) (p .2) (p .0 .net .low (c .before .before .before .before .before .before .before .before .before .before .before .before .before .before .before .before .args .c) (p .2) j (h .0)) (h .1) k o q,
+      pass-one (v .inv .1) (p .2) (p .0 .net .low (a .c) (p .2) j (h .0)) (h .1) k o q,
     )
 
 returns-2 : tie.Need-returns-2 Inv-loop μ-loop
