@@ -1,7 +1,6 @@
 // For the trials alone (tests/probe.h): the operations as C can call them, the numbers that they return put into a lent `result`.
 // Promises nothing but that each call is safe, whatever it is lent: where `result` is too short for the numbers, the answer is false.
-// Rests on record, split, answer, entries and tree, whose contracts say what the numbers are. A function that has the list of entries is
-// proved by hand, so it only calls: no test stands in it.
+// Rests on record, split, answer, entries and tree, whose contracts say what the numbers are.
 use answer::Answer;
 use answer::Reading;
 use answer::Verdict;
@@ -128,6 +127,7 @@ pub extern "C" fn probe_read(
     put_reading(result, reading)
 }
 
+// A function that has the list of entries is proved by hand, so this one and `probe_write_entries` only call: no test stands in them.
 #[no_mangle]
 pub extern "C" fn probe_read_entries(file: &[u8], list: &mut [Flip], result: &mut [u64]) -> bool {
     let reading = entries::read_answer(file, list);
