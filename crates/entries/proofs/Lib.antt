@@ -1,9 +1,10 @@
--- For the walks by hand: rows of elements, what is lent for a call, local arrays. Of entries: reading and writing from parts.
+-- For the walks by hand: what each has, its loops, rows of elements, single elements, what is lent for a call, local arrays. Of entries: a list with its parts, and reading and writing from parts.
+pub mod Walks
+pub mod Turns
 pub mod Rows
 pub mod Elements
-pub mod Turns
-pub mod Parts
 pub mod Lends
 pub mod Arrays
+pub mod Parts
 pub mod Reading
 pub mod Writing

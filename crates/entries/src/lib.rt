@@ -30,8 +30,12 @@ fn at_most_256(entries: usize) -> usize
 
 // The first entries of the list become those of the three parts.
 fn fill(list: &mut [Flip], columns: &[u64], raised: &[u64], lowered: &[u64], count: usize)
-    requires { ⌜ (count ≤ length (now list)) × ((count ≤ length (now columns)) × ((count ≤ length (now raised)) × ((count ≤ length (now lowered)) × narrow (now columns) count))) ⌝ }
-    ensures { λ _. ⌜ now (list .exit) ≡ over count (zipped (now (columns .entry)) (now (raised .entry)) (now (lowered .entry))) (now (list .entry)) ⌝ }
+    requires { ⌜
+        (count ≤ length (now list))
+        × ((count ≤ length (now columns)) × ((count ≤ length (now raised)) × ((count ≤ length (now lowered)) × narrow (now columns) count))) ⌝ }
+    ensures { λ _. ⌜
+        now (list .exit)
+        ≡ over count (zipped (now (columns .entry)) (now (raised .entry)) (now (lowered .entry))) (now (list .entry)) ⌝ }
 {
     let mut k: usize = 0;
     while k < count {
@@ -53,7 +57,10 @@ fn take_apart(
     count: usize,
 )
     requires { ⌜ (count ≤ length (now list)) × ((count ≤ length (now columns)) × ((count ≤ length (now raised)) × (count ≤ length (now lowered)))) ⌝ }
-    ensures { λ _. ⌜ (now (columns .exit) ≡ over count (columnsOf (now (list .entry))) (now (columns .entry))) × ((now (raised .exit) ≡ over count (raisedOf (now (list .entry))) (now (raised .entry))) × (now (lowered .exit) ≡ over count (loweredOf (now (list .entry))) (now (lowered .entry)))) ⌝ }
+    ensures { λ _. ⌜
+        (now (columns .exit) ≡ over count (columnsOf (now (list .entry))) (now (columns .entry)))
+        × ((now (raised .exit) ≡ over count (raisedOf (now (list .entry))) (now (raised .entry)))
+        × (now (lowered .exit) ≡ over count (loweredOf (now (list .entry))) (now (lowered .entry)))) ⌝ }
 {
     let mut k: usize = 0;
     while k < count {
@@ -95,7 +102,9 @@ fn write_parts(
     out: &mut [u8],
 ) -> Written
     requires { ⌜ (count ≤ length (now columns)) × ((count ≤ length (now raised)) × (count ≤ length (now lowered))) ⌝ }
-    ensures { λ r. ⌜ Writes (contentOf answer (take count (now (columns .entry))) (take count (now (raised .entry))) (take count (now (lowered .entry)))) count (now (out .entry)) r (now (out .exit)) ⌝ }
+    ensures { λ r. ⌜
+        Writes (contentOf answer (take count (now (columns .entry))) (take count (now (raised .entry))) (take count (now (lowered .entry))))
+        count (now (out .entry)) r (now (out .exit)) ⌝ }
 {
     write(
         answer,
@@ -126,7 +135,9 @@ pub fn read_answer(file: &[u8], list: &mut [Flip]) -> Reading
 
 // The operation "write an answer".
 pub fn write_answer(answer: Answer, list: &[Flip], out: &mut [u8]) -> Written
-    ensures { λ r. ⌜ Writes (contentOf answer (columnsOf (now (list .entry))) (raisedOf (now (list .entry))) (loweredOf (now (list .entry)))) (length (now (list .entry))) (now (out .entry)) r (now (out .exit)) ⌝ }
+    ensures { λ r. ⌜
+        Writes (contentOf answer (columnsOf (now (list .entry))) (raisedOf (now (list .entry))) (loweredOf (now (list .entry))))
+        (length (now (list .entry))) (now (out .entry)) r (now (out .exit)) ⌝ }
 {
     let mut columns = [0u64; 256];
     let mut raised = [0u64; 256];
