@@ -31,26 +31,32 @@ entries g = run (λ i. g i ∷ [])
 
 -- ---- the file of a content
 
+-- "n, m, group count, flipped column count (2 each), total (4)".
 unfoldable pub headBytes : ℕ → ℕ → ℕ → ℕ → ℕ → List ℕ
 headBytes n m groups flips total =
     recordBytes (recordOf records.answerHead) (bytesOf 2 n ++ bytesOf 2 m ++ bytesOf 2 groups ++ bytesOf 2 flips ++ bytesOf 4 total)
 
+-- "Taxa (8), split cost (4)".
 unfoldable pub groupBytes : ℕ → ℕ → List ℕ
 groupBytes taxa cost = recordBytes (recordOf records.group) (bytesOf 8 taxa ++ bytesOf 4 cost)
 
+-- "Column (2), raised set (8), lowered set (8)".
 unfoldable pub flipsBytes : ℕ → ℕ → ℕ → List ℕ
 flipsBytes column raised lowered = recordBytes (recordOf records.flips) (bytesOf 2 column ++ bytesOf 8 raised ++ bytesOf 8 lowered)
 
+-- The end record, which has no payload.
 unfoldable pub endBytes : List ℕ
 endBytes = recordBytes (recordOf records.answerEnd) []
 
--- The record of group i, and that of flips j.
+-- The record of group i.
 abbrev pub groupOf : List ℕ → List ℕ → ℕ → List ℕ
 groupOf taxa costs i = groupBytes (getD taxa i 0) (getD costs i 0)
 
+-- The record of flips j.
 abbrev pub flipsOf : List ℕ → List ℕ → List ℕ → ℕ → List ℕ
 flipsOf columns raised lowered j = flipsBytes (getD columns j 0) (getD raised j 0) (getD lowered j 0)
 
+-- "An answer file is one head, its groups, its flips, one end."
 unfoldable pub fileOf : Content → List ℕ
 fileOf c =
     headBytes (c .n) (c .m) (c .groups) (c .flips) (c .total)
@@ -64,25 +70,31 @@ lengthOf c = 20 + 16 * c .groups + 22 * c .flips
 
 -- ---- the content of a file: the head takes 16 bytes, each group's record 16, each flips record 22
 
+-- The group count.
 abbrev pub groupsIn : List ℕ → ℕ
 groupsIn file = numberAt 2 file 8
 
+-- The flipped column count.
 abbrev pub flipsIn : List ℕ → ℕ
 flipsIn file = numberAt 2 file 10
 
+-- The taxa of the first groups.
 unfoldable pub taxaIn : List ℕ → ℕ → List ℕ
 taxaIn file = entries (λ i. numberAt 8 file (20 + 16 * i))
 
+-- Their split costs.
 unfoldable pub costsIn : List ℕ → ℕ → List ℕ
 costsIn file = entries (λ i. numberAt 4 file (28 + 16 * i))
 
--- Fields of the flips records of a file, of which the first starts at a place.
+-- The columns of flips records, of which the first starts at a place.
 unfoldable pub columnsFrom : List ℕ → ℕ → ℕ → List ℕ
 columnsFrom file at = entries (λ j. numberAt 2 file (at + 22 * j + 4))
 
+-- Their raised sets.
 unfoldable pub raisedFrom : List ℕ → ℕ → ℕ → List ℕ
 raisedFrom file at = entries (λ j. numberAt 8 file (at + 22 * j + 6))
 
+-- Their lowered sets.
 unfoldable pub loweredFrom : List ℕ → ℕ → ℕ → List ℕ
 loweredFrom file at = entries (λ j. numberAt 8 file (at + 22 * j + 14))
 
@@ -90,6 +102,7 @@ loweredFrom file at = entries (λ j. numberAt 8 file (at + 22 * j + 14))
 abbrev pub flipsStart : ℕ → ℕ
 flipsStart groups = 16 + 16 * groups
 
+-- What a file says, whether it is lawful or not.
 abbrev pub contentIn : List ℕ → Content
 contentIn file =
     record {
@@ -107,9 +120,11 @@ contentIn file =
 
 -- ---- the content of a value, and the value of a content: "a value with 63 places, those past the last 0"
 
+-- "63 places, those past the last 0".
 abbrev pub padded : List ℕ → List ℕ
 padded xs = over xs 0 (replicate 63 0)
 
+-- The value of a content, which has no flip list.
 abbrev pub answerOf : Content → Answer
 answerOf c =
     record {
@@ -122,7 +137,7 @@ answerOf c =
       costs = padded (c .costs);
     }
 
--- "Writing reads no place or list entry past the counts."
+-- The content of a value and a flip list: "writing reads no place or list entry past the counts".
 abbrev pub contentOf : Answer → List ℕ → List ℕ → List ℕ → Content
 contentOf a columns raised lowered =
     record {

@@ -28,14 +28,16 @@ fileTests file = onward (tests (inFile file) (contentIn file) (flipsIn file)) (n
 unfoldable pub readTests : List ℕ → ℕ → Passed
 readTests file room = onward (fileTests file) (judge (cond (ltb room (flipsIn file)) 10 0) 0)
 
--- "0 for every other number."
+-- What a refusal returns beside its number and place: "0 for every other number".
 abbrev pub empty : Content
 empty = record { n = 0; m = 0; groups = 0; flips = 0; total = 0; taxa = []; costs = []; columns = []; raised = []; lowered = [] }
 
+-- The content's value where the tests passed, and else the refusal.
 abbrev pub answered : Content → Passed → Reading
 answered c (passed.At here) = record { verdict = Taken; answer = answerOf c }
 answered c (passed.Refused why) = record { verdict = Refused why; answer = answerOf empty }
 
+-- What reading a file answers, for a list with room for so many entries.
 unfoldable pub reading : List ℕ → ℕ → Reading
 reading file room = answered (contentIn file) (readTests file room)
 
@@ -50,10 +52,12 @@ pub record Returned : Type 0 where
   pub place : ℕ
   pub answer : Answer
 
+-- These numbers, by the verdict.
 abbrev pub returnedBy : Verdict → Answer → Returned
 returnedBy Taken a = record { number = 0; place = 0; answer = a }
 returnedBy (Refused why) a = record { number = why .number; place = why .place; answer = a }
 
+-- Those of a reading.
 abbrev pub returned : Reading → Returned
 returned r = returnedBy (r .verdict) (r .answer)
 

@@ -63,9 +63,10 @@ entryFault n m floor column raised lowered =
     (cond (kept m floor column raised lowered) 0 13)
     6
 
--- "Total is the sum of the split costs" (14).
+-- The sum of the split costs of the first groups.
 abbrev pub sumOf : List ℕ → ℕ → ℕ
 sumOf costs groups = sum groups (λ i. getD costs i 0)
 
+-- The end record: 14 where "total is not the sum of costs".
 abbrev pub totalFault : ℕ → List ℕ → ℕ → ℕ
 totalFault total costs groups = cond (eqb total (sumOf costs groups)) 0 14

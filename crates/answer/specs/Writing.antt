@@ -14,14 +14,16 @@ use Rattle.answer.specs.declared.Written.the-variants.{Length, Refused}
 use Rattle.answer.specs.Content.{Content, fileOf, lengthOf}
 use Rattle.answer.specs.Tests.{judge, asGiven, tests}
 
--- `listed` is how many entries the flip list has, `room` how many bytes the output.
+-- All tests of writing; `listed` is how many entries the flip list has, `room` how many bytes the output.
 unfoldable pub writeTests : Content → ℕ → ℕ → Passed
 writeTests c listed room = onward (tests asGiven c listed) (judge (cond (ltb room (lengthOf c)) 10 0) 0)
 
+-- The length where the tests passed, and else the refusal.
 abbrev pub ended : ℕ → Passed → Written
 ended size (passed.At here) = Length size
 ended size (passed.Refused why) = Refused why
 
+-- What writing a content answers.
 unfoldable pub writing : Content → ℕ → ℕ → Written
 writing c listed room = ended (lengthOf c) (writeTests c listed room)
 
@@ -36,10 +38,12 @@ pub record Returned : Type 0 where
   pub place : ℕ
   pub size : ℕ
 
+-- These numbers, by the case.
 abbrev pub returned : Written → Returned
 returned (Length size) = record { number = 0; place = 0; size = size }
 returned (Refused why) = record { number = why .number; place = why .place; size = 0 }
 
+-- The numbers that writing a content returns.
 abbrev pub writeNumbers : Content → ℕ → ℕ → Returned
 writeNumbers c listed room = returned (writing c listed room)
 

@@ -17,13 +17,15 @@ zipped (c ∷ cs) [] ds = []
 zipped (c ∷ cs) (u ∷ us) [] = []
 zipped (c ∷ cs) (u ∷ us) (d ∷ ds) = record { column = c; raised = u; lowered = d } ∷ zipped cs us ds
 
--- The entries' columns, their raised and their lowered taxa.
+-- The entries' columns.
 abbrev pub columnsOf : List Flip → List ℕ
 columnsOf ys = map (λ (f : Flip). f .column) ys
 
+-- Their raised taxa.
 abbrev pub raisedOf : List Flip → List ℕ
 raisedOf ys = map (λ (f : Flip). f .raised) ys
 
+-- Their lowered taxa.
 abbrev pub loweredOf : List Flip → List ℕ
 loweredOf ys = map (λ (f : Flip). f .lowered) ys
 

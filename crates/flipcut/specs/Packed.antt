@@ -11,13 +11,16 @@ use Rattle.score.specs.declared.Scored.{Scored}
 use Rattle.score.specs.declared.Scored.the-variants as scores
 use Rattle.score.specs.Operation as score
 
+-- A refusal, packed.
 abbrev pub packedRefusal : Refusal → ℕ
 packedRefusal why = 2 ^ 63 + (why .number + 256 * why .place)
 
+-- What the check answers, packed.
 abbrev pub packed : Checked → ℕ
 packed (Taken n m) = n + 65536 * m
 packed (Refused why) = packedRefusal why
 
+-- What the score answers, packed.
 abbrev pub packedScore : Scored → ℕ
 packedScore (scores.Taken raises lowers) = lowers .0 + 2 ^ 31 * raises .0
 packedScore (scores.Refused why) = packedRefusal why

@@ -23,6 +23,7 @@ headJudged n m next =
     (cond (ltb 256 m) (passed.Refused (refused 4 0))
     (At next))
 
+-- The head: read, then judged.
 unfoldable pub headPassed : List ℕ → Passed
 headPassed file =
     judged (step file 0 (recordOf records.matrixHead)) (λ at next.
@@ -36,14 +37,17 @@ columnJudged known place c next =
     (cond (eqb (c .ones ∩ c .zeros) 0) (At next) (passed.Refused (refused 7 place)))
     (passed.Refused (refused 6 place)))
 
+-- One column: read, then judged.
 unfoldable pub columnPassed : List ℕ → ℕ → Cursor → Passed
 columnPassed file known here =
     judged (step file (here .at) (recordOf records.column)) (λ at next. columnJudged known (here .at) (columnAt file at) next)
 
+-- m columns, one after the other.
 unfoldable pub columnsPassed : List ℕ → ℕ → ℕ → Cursor → Passed
 columnsPassed file known zero here = At here
 columnsPassed file known (suc m) here = onward (columnPassed file known here) (columnsPassed file known m)
 
+-- The end record, and nothing after it.
 unfoldable pub endPassed : List ℕ → Cursor → Passed
 endPassed file here = judged (step file (here .at) (recordOf records.matrixEnd)) (λ at after. nothingAfter file after)
 
@@ -52,6 +56,7 @@ unfoldable pub filePassed : List ℕ → Passed
 filePassed file =
     onward (headPassed file) (λ first. onward (columnsPassed file (all (numberAt 2 file 4)) (numberAt 2 file 6) first) (endPassed file))
 
+-- n and m where the file passed, and else the refusal.
 abbrev pub answered : ℕ → ℕ → Passed → Checked
 answered n m (At here) = Taken n m
 answered n m (passed.Refused why) = Refused why
@@ -68,6 +73,7 @@ pub record Returned : Type 0 where
   pub n : ℕ
   pub m : ℕ
 
+-- These numbers, by the case.
 abbrev pub returned : Checked → Returned
 returned (Taken n m) = record { number = 0; place = 0; n = n; m = m }
 returned (Refused why) = record { number = why .number; place = why .place; n = 0; m = 0 }

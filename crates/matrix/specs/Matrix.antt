@@ -22,6 +22,7 @@ pub record LegalColumn (n : ℕ) (c : Column) : Type 0 where
   pub zeros-known : c .zeros ⊆ all n
   pub apart : c .ones ∩ c .zeros ≡ 0
 
+-- Each column of a list is legal.
 pub data LegalColumns (n : ℕ) : List Column → Type 0 where
   none : LegalColumns n []
   one : {c : Column} {cs : List Column} → LegalColumn n c → LegalColumns n cs → LegalColumns n (c ∷ cs)
@@ -35,19 +36,24 @@ pub record Legal (M : Matrix) : Type 0 where
 
 -- ---- the file of a matrix
 
+-- "n, m (2 each)".
 abbrev pub headBytes : ℕ → ℕ → List ℕ
 headBytes n m = recordBytes (recordOf records.matrixHead) (bytesOf 2 n ++ bytesOf 2 m)
 
+-- "Weight (2), 1-set (8), 0-set (8)".
 abbrev pub columnBytes : Column → List ℕ
 columnBytes c = recordBytes (recordOf records.column) (bytesOf 2 (c .weight) ++ (bytesOf 8 (c .ones) ++ bytesOf 8 (c .zeros)))
 
+-- The records of columns, one after the other.
 unfoldable pub columnsBytes : List Column → List ℕ
 columnsBytes [] = []
 columnsBytes (c ∷ cs) = columnBytes c ++ columnsBytes cs
 
+-- The end record, which has no payload.
 abbrev pub endBytes : List ℕ
 endBytes = recordBytes (recordOf records.matrixEnd) []
 
+-- "A matrix file is one head, m columns, one end."
 unfoldable pub fileOf : Matrix → List ℕ
 fileOf M = headBytes (M .taxa) (length (M .columns)) ++ (columnsBytes (M .columns) ++ endBytes)
 
@@ -66,5 +72,6 @@ unfoldable pub columnsFrom : List ℕ → ℕ → ℕ → List Column
 columnsFrom file zero at = []
 columnsFrom file (suc m) at = columnAt file (at + 4) ∷ columnsFrom file m (at + 22)
 
+-- The matrix in a file: its n, and its m columns after the head.
 unfoldable pub matrixOf : List ℕ → Matrix
 matrixOf file = record { taxa = numberAt 2 file 4; columns = columnsFrom file (numberAt 2 file 6) 8 }

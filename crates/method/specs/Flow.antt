@@ -35,11 +35,11 @@ module _ (n : ℕ) (cap : ℕ → ℕ) (thr : ℕ) (out inn : ℕ → ℕ) where
     pub balance : sum n out ≡ sum n inn
     pub limit : sum n out ≤ thr
 
-  -- A hop: one more unit can run from taxon i through the column to taxon j. There is room at both, and it turns back a unit at i or at j, or the
-  -- column lets it through.
+  -- A unit that runs from taxon i to taxon j turns one back at i or at j, or the column lets it through.
   abbrev pub Turns : ℕ → ℕ → Type 0
   Turns i j = (0 < inn i) ⊎ (0 < out j) ⊎ (sum n out < thr)
 
+  -- A hop: one more unit can run from taxon i through the column to taxon j. There is room at both.
   pub record Hop (i j : ℕ) : Type 0 where
     pub up : out i < cap i
     pub down : inn j < cap j
@@ -52,6 +52,7 @@ cut n cap thr A = min (sum n (inside A cap)) (min (sum n (outside A cap)) thr)
 -- ---- n taxa and m columns
 
 module _ (n m : ℕ) (cap : ℕ → ℕ → ℕ) (thr : ℕ → ℕ) where
+  -- What a set A of taxa cuts of all columns.
   abbrev pub cutCost : (ℕ → Bool) → ℕ
   cutCost A = sum m (λ c. cut n (cap c) (thr c) A)
 
@@ -79,10 +80,11 @@ module _ (n m : ℕ) (cap : ℕ → ℕ → ℕ) (thr : ℕ → ℕ) where
 -- ---- the flow search for the split of S
 
 module _ (k m : ℕ) (cols : ℕ → Column) (S : ℕ) where
-  -- The network of S: its arcs, and those through its columns.
+  -- What the arcs of the network of S carry.
   abbrev pub arcs : ℕ → ℕ → ℕ
   arcs c = cap k S (cols c)
 
+  -- What its columns let through.
   abbrev pub limits : ℕ → ℕ
   limits c = through k S (cols c)
 

@@ -20,10 +20,11 @@ pub record Same (c d : Column) (i : ℕ) : Type 0 where
   pub ones : has (c .ones) i ≡ has (d .ones) i
   pub zeros : has (c .zeros) i ≡ has (d .zeros) i
 
--- A column with its 0s in X raised to 1, and with its 1s in X lowered to 0.
+-- A column with its 0s in X raised to 1.
 unfoldable pub raise : ℕ → Column → Column
 raise X c = record { weight = c .weight; ones = c .ones ∪ (c .zeros ∩ X); zeros = c .zeros ∖ X }
 
+-- A column with its 1s in X lowered to 0.
 unfoldable pub lower : ℕ → Column → Column
 lower X c = record { weight = c .weight; ones = c .ones ∖ X; zeros = c .zeros ∪ (c .ones ∩ X) }
 
@@ -40,12 +41,13 @@ module _ (k : ℕ) where
   unfoldable pub share : ℕ → ℕ → Column → ℕ
   share S A c = min (min (count k (c .ones ∩ A)) (count k (c .ones ∩ (S ∖ A)))) (count k (c .zeros ∩ S))
 
-  -- The side A of a division of S, that of "s, the lowest taxon of S"; and the same as a test.
+  -- The side A of a division of S, that of "s, the lowest taxon of S".
   pub record Division (S A : ℕ) : Type 0 where
     pub inside : A ⊆ S
     pub lowest : low k S ∈ A
     pub proper : A ≢ S
 
+  -- The same as a test.
   unfoldable pub division : ℕ → ℕ → Bool
   division S A = within A S && has A (low k S) && not (eqb A S)
 

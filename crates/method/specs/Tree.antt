@@ -21,6 +21,7 @@ pub record Walk : Type 0 where
   pub columns : ℕ → Column
   pub groups : List Group
 
+-- A walk that comes to no group.
 abbrev pub leaf : (ℕ → Column) → Walk
 leaf cols = record { columns = cols; groups = [] }
 
@@ -187,10 +188,11 @@ pub record Fills (X : ℕ) (c : Column) (F : ℕ) : Type 0 where
 abbrev pub Filled : (ℕ → Type 0) → ℕ → Column → Type 0
 Filled clade X c = (F : ℕ) × (F ≡ 0 ⊎ clade F) × F ⊆ X × Fills X c F
 
--- A rooted tree as its clades: "Any two are nested or disjoint".
+-- "Any two are nested or disjoint."
 abbrev pub NestedOrDisjoint : ℕ → ℕ → Type 0
 NestedOrDisjoint X Y = X ⊆ Y ⊎ (Y ⊆ X ⊎ Disjoint X Y)
 
+-- A rooted tree as its clades.
 pub record RootedTree (clade : ℕ → Type 0) : Type 0 where
   pub pair : {X Y : ℕ} → clade X → clade Y → NestedOrDisjoint X Y
 

@@ -17,11 +17,13 @@ use Rattle.tree.specs.Build.{built, outputAfter, workspaceAfter}
 
 -- ---- the contracts of build and split, each as one statement of all that the operation returns and leaves
 
+-- What the build of a file returns and leaves.
 pub record Builds (file : List ℕ) (ws : List ℤ) (out : List ℕ) (r : Built) (ws′ : List ℤ) (out′ : List ℕ) : Type 0 where
   pub answers : r ≡ built file (length ws) (length out)
   pub output : out′ ≡ outputAfter file r out
   pub workspace : ws′ ≡ workspaceAfter file r ws
 
+-- What the split of a group of a file returns and leaves.
 pub record Splits (file : List ℕ) (S : ℕ) (ws : List ℤ) (r : Divided) (ws′ : List ℤ) : Type 0 where
   pub answers : r ≡ split.divided file S (length ws)
   pub workspace : ws′ ≡ split.workspaceAfter file r ws
@@ -39,25 +41,29 @@ pub record Leaves (file answer : List ℕ) : Type 0 where
   pub builds : Builds file ws out (Taken size sum) ws′ out′
   pub bytes : answer ≡ take size out′
 
--- The groups of an answer file, each with its split cost, and its flips, both in the order of the file; and its total.
+-- The groups of an answer file, each with its split cost.
 abbrev pub groupsIn : List ℕ → List Group
 groupsIn answer = let c = contentIn answer in lists.groupsOf (c .taxa) (c .costs) (c .groups)
 
+-- Its flips.
 abbrev pub flipsIn : List ℕ → List Flips
 flipsIn answer = let c = contentIn answer in lists.flipsIn (c .columns) (c .raised) (c .lowered) (c .flips)
 
+-- Its total.
 abbrev pub totalIn : List ℕ → ℕ
 totalIn answer = contentIn answer .total
 
 -- ---- words of demand 3
 
--- How many columns a matrix has, its column of a number, and the set of its taxa.
+-- How many columns a matrix has.
 abbrev pub many : Matrix → ℕ
 many M = length (M .columns)
 
+-- Its column of a number.
 abbrev pub columnsOf : Matrix → ℕ → Column
 columnsOf M = column (M .columns)
 
+-- The set of its taxa.
 abbrev pub known : Matrix → ℕ
 known M = all (M .taxa)
 

@@ -71,36 +71,44 @@ tells (score file answer) = let r = scoring.scoreNumbers file answer in record {
 
 -- ---- the table
 
+-- What is asked, and what document 01 says is told.
 pub record Row : Type 0 where
   pub asked : Asked
   pub told : Told
 
+-- A check that is refused.
 abbrev refuses : List ℕ → ℕ → ℕ → Row
 refuses file number place = record { asked = check file; told = record { number = number; place = place; first = 0; second = 0; bytes = [] } }
 
+-- A check that is taken.
 abbrev takes : List ℕ → ℕ → ℕ → Row
 takes file n m = record { asked = check file; told = record { number = 0; place = 0; first = n; second = m; bytes = [] } }
 
+-- A build that is taken: its length, its total, and its answer file.
 abbrev answers : List ℕ → ℕ → ℕ → List ℕ → Row
 answers file size total bytes = record { asked = build file; told = record { number = 0; place = 0; first = size; second = total; bytes = bytes } }
 
--- Specimen 1's matrix, "78 bytes in, an answer file of 112 bytes".
+-- A score.
 abbrev scores : List ℕ → List ℕ → ℕ → ℕ → Row
 scores file answer raises lowers = record { asked = score file answer; told = record { number = 0; place = 0; first = raises; second = lowers; bytes = [] } }
 
+-- Specimen 1's matrix, "78 bytes in, an answer file of 112 bytes".
 abbrev pub first : List ℕ
 first = head 4 3 ++ column 1 0b0011 0b1100 ++ column 1 0b0110 0b1001 ++ column 2 0b1100 0b0011 ++ end
 
+-- Its answer file.
 abbrev firstAnswer : List ℕ
 firstAnswer = answerHead 4 3 3 2 2 ++ group 0xf 1 ++ group 0xe 1 ++ group 0xc 0 ++ flips 0 0 0b0001 ++ flips 1 0b1000 0 ++ answerEnd
 
--- Specimen 7, and the answer to it.
+-- Specimen 7's matrix.
 abbrev seventh : List ℕ
 seventh = head 2 1 ++ column 5 0 0b11 ++ end
 
+-- Its answer file.
 abbrev seventhAnswer : List ℕ
 seventhAnswer = answerHead 2 1 1 0 0 ++ group 3 0 ++ answerEnd
 
+-- The specimens, by number.
 abbrev pub table : List Row
 table =
     -- 1

@@ -13,25 +13,33 @@ use Rattle.record.specs.declared.Step.the-variants.{Payload, Refused}
 use Rattle.record.specs.declared.Passed.{Passed}
 use Rattle.record.specs.declared.Passed.the-variants as passed
 
--- "Each record kind has one number".
+-- ---- "Each record kind has one number"
+
+-- "1 matrix head".
 abbrev pub matrixHead : ℕ
 matrixHead = 1
 
+-- "2 column".
 abbrev pub column : ℕ
 column = 2
 
+-- "3 matrix end".
 abbrev pub matrixEnd : ℕ
 matrixEnd = 3
 
+-- "17 answer head".
 abbrev pub answerHead : ℕ
 answerHead = 17
 
+-- "18 group".
 abbrev pub group : ℕ
 group = 18
 
+-- "19 flips".
 abbrev pub flips : ℕ
 flips = 19
 
+-- "20 answer end".
 abbrev pub answerEnd : ℕ
 answerEnd = 20
 
@@ -44,6 +52,7 @@ payload kind =
     (cond (eqb kind group) 12
     (cond (eqb kind flips) 18 0))))
 
+-- The record of a kind.
 abbrev pub recordOf : ℕ → Record
 recordOf kind = record { kind = kind; length = payload kind }
 
@@ -51,6 +60,7 @@ recordOf kind = record { kind = kind; length = payload kind }
 abbrev pub left : List ℕ → ℕ → ℕ
 left file at = length file - at
 
+-- A refusal of a number, at a place.
 abbrev pub refused : ℕ → ℕ → Refusal
 refused number place = record { number = number; place = place }
 
@@ -63,11 +73,12 @@ step file at expected =
     (Payload (at + 4) (record { at = at + 4 + expected .length })))
     (Refused (refused 2 at)))
 
--- Of a step or a reading that was refused, why.
+-- Of a step that was refused, why.
 abbrev pub refusalOf : Step → Refusal
 refusalOf (Payload at next) = refused 0 at
 refusalOf (Refused why) = why
 
+-- Of a reading that was refused, why.
 abbrev pub passedRefusal : Passed → Refusal
 passedRefusal (passed.At here) = refused 0 (here .at)
 passedRefusal (passed.Refused why) = why
@@ -86,9 +97,10 @@ onward (passed.Refused why) go = passed.Refused why
 unfoldable pub nothingAfter : List ℕ → Cursor → Passed
 nothingAfter file here = cond (ltb 0 (left file (here .at))) (passed.Refused (refused 8 (here .at))) (passed.At here)
 
--- The length and the kind of a record, and the whole record with its payload.
+-- The length and the kind of a record, as it starts.
 unfoldable pub openingOf : Record → List ℕ
 openingOf it = bytesOf 2 (it .length) ++ bytesOf 2 (it .kind)
 
+-- The whole record, with its payload.
 unfoldable pub recordBytes : Record → List ℕ → List ℕ
 recordBytes it content = openingOf it ++ content

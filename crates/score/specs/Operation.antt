@@ -25,10 +25,11 @@ use Rattle.score.specs.Score.{nodeFor, raisesOf, lowersOf}
 abbrev pub nodeIn : List ℕ → Column → ℕ
 nodeIn answer = let a = contentIn answer in nodeFor (a .n) (a .taxa) (a .groups)
 
--- "Raises and lowers, each times its weight."
+-- The raises of a matrix file's m columns: "raises and lowers, each times its weight".
 abbrev pub raisesIn : List ℕ → List ℕ → ℕ → Raises
 raisesIn matrix answer m = record { 0 = raisesOf (columnIn matrix) (nodeIn answer) m }
 
+-- The lowers of a matrix file's m columns.
 abbrev pub lowersIn : List ℕ → List ℕ → ℕ → Lowers
 lowersIn matrix answer m = record { 0 = lowersOf (columnIn matrix) (nodeIn answer) m }
 
@@ -39,15 +40,17 @@ agreed matrix answer n m =
     (Taken (raisesIn matrix answer m) (lowersIn matrix answer m))
     (Refused (refused 15 0))
 
--- "Score reads the matrix, then the answer, then tests 15; a refused answer gives its place in the answer."
+-- "Score reads the matrix, then the answer, then tests 15; a refused answer gives its place in the answer": once the answer was read.
 abbrev pub afterAnswer : List ℕ → List ℕ → ℕ → ℕ → Passed → Scored
 afterAnswer matrix answer n m (passed.At here) = agreed matrix answer n m
 afterAnswer matrix answer n m (passed.Refused why) = Refused why
 
+-- Once the matrix was read: the answer is.
 abbrev pub afterMatrix : List ℕ → List ℕ → Checked → Scored
 afterMatrix matrix answer (checks.Taken n m) = afterAnswer matrix answer n m (fileTests answer)
 afterMatrix matrix answer (checks.Refused why) = Refused why
 
+-- What the score of two files answers.
 unfoldable pub scored : List ℕ → List ℕ → Scored
 scored matrix answer = afterMatrix matrix answer (checked matrix)
 
@@ -58,10 +61,12 @@ pub record Returned : Type 0 where
   pub raises : ℕ
   pub lowers : ℕ
 
+-- These numbers, by the case.
 abbrev pub returned : Scored → Returned
 returned (Taken up down) = record { number = 0; place = 0; raises = up .0; lowers = down .0 }
 returned (Refused why) = record { number = why .number; place = why .place; raises = 0; lowers = 0 }
 
+-- The numbers that the score of two files returns.
 abbrev pub scoreNumbers : List ℕ → List ℕ → Returned
 scoreNumbers matrix answer = returned (scored matrix answer)
 

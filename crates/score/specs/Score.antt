@@ -21,10 +21,11 @@ lowersAt c X = count 64 (c .ones ∖ X)
 unfoldable pub distance : Column → ℕ → ℕ
 distance c X = c .weight * (raisesAt c X + lowersAt c X)
 
--- The clusters of a tree with n leaves and the first k of the groups: "leaves included".
+-- The cluster of a leaf.
 abbrev pub leaf : ℕ → ℕ
 leaf i = 2 ^ i
 
+-- The clusters of a tree with n leaves and the first k of the groups: "leaves included".
 pub data Node (n : ℕ) (groups : List ℕ) (k : ℕ) : ℕ → Type 0 where
   at-leaf : (i : ℕ) → i < n → Node n groups k (leaf i)
   at-group : (i : ℕ) → i < k → Node n groups k (getD groups i 0)
@@ -52,9 +53,10 @@ nearestIn c cluster (suc k) best = nearest c (cluster k) (nearestIn c cluster k 
 unfoldable pub nodeFor : ℕ → List ℕ → ℕ → Column → ℕ
 nodeFor n groups k c = nearestIn c (λ i. getD groups i 0) k (nearestIn c leaf n (leaf 0))
 
--- Raises and lowers of a matrix, "each times its weight": the sums over its columns (equation 3).
+-- Raises of a matrix, "each times its weight": the sum over its columns (equation 3).
 unfoldable pub raisesOf : (ℕ → Column) → (Column → ℕ) → ℕ → ℕ
 raisesOf column node m = sum m (λ j. column j .weight * raisesAt (column j) (node (column j)))
 
+-- Lowers, alike.
 unfoldable pub lowersOf : (ℕ → Column) → (Column → ℕ) → ℕ → ℕ
 lowersOf column node m = sum m (λ j. column j .weight * lowersAt (column j) (node (column j)))

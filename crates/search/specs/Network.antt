@@ -10,6 +10,7 @@ use Rattle.taxa.specs.Sets.{has}
 use Rattle.method.specs.Flow.{ColumnFlow}
 use Rattle.search.specs.Workspace.{outs, inns}
 
+-- Entry x of a list; past its end, 0.
 abbrev pub nth : List ℕ → ℕ → ℕ
 nth l x = getD l x 0
 
@@ -17,6 +18,7 @@ nth l x = getD l x 0
 unfoldable pub caps : List ℕ → List ℕ → ℕ → ℕ → ℕ
 caps W J c i = cond (has (nth J c) i) (nth W c) 0
 
+-- What the search asks of these lists.
 pub record Net (W J L : List ℕ) (n m : ℕ) : Type 0 where
   pub taxa : n ≤ 64
   pub columns : m ≤ 256

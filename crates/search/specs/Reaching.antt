@@ -13,16 +13,19 @@ use Rattle.method.proofs.Carry.{carry}
 use Rattle.method.proofs.HopTree.{Tree, Growing, Joined}
 use Rattle.search.specs.Network.{nth, caps}
 
--- From which taxon x was reached, through which column, at which turn, and the least that a hop of the way carries.
+-- From which taxon x was reached.
 abbrev pub fromOf : List ℕ → ℕ → ℕ
 fromOf Y x = nth Y (4 * x)
 
+-- Through which column.
 abbrev pub viaOf : List ℕ → ℕ → ℕ
 viaOf Y x = nth Y (4 * x + 1)
 
+-- At which turn.
 abbrev pub turnOf : List ℕ → ℕ → ℕ
 turnOf Y x = nth Y (4 * x + 2)
 
+-- The least that a hop of the way to x carries.
 abbrev pub widthOf : List ℕ → ℕ → ℕ
 widthOf Y x = nth Y (4 * x + 3)
 

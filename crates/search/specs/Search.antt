@@ -27,10 +27,11 @@ pub record Given (W O Z : List ℕ) (S n m : ℕ) : Type 0 where
   pub two : 1 < count n S
 
 module _ (W O Z : List ℕ) (S n m : ℕ) where
-  -- "arcs between a taxon of S and its columns [..] carry at most w, the arc through a column at most w x z".
+  -- "Arcs between a taxon of S and its columns [..] carry at most w".
   abbrev pub capsOf : ℕ → ℕ → ℕ
   capsOf c = cap n S (colsOf W O Z c)
 
+  -- "The arc through a column at most w x z".
   abbrev pub throughOf : ℕ → ℕ
   throughOf c = through n S (colsOf W O Z c)
 

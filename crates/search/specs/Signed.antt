@@ -3,11 +3,12 @@ use mathlib.Core.Path.{_≡_}
 use Prim.Native.Nat.{ℕ, suc, _-_}
 use lib.IntN.{ℤ, pos, negsuc}
 
--- What goes out of the taxon into the column, and what comes in from it.
+-- What goes out of the taxon into the column.
 abbrev pub outOf : ℤ → ℕ
 outOf (pos n) = n
 outOf (negsuc n) = 0
 
+-- What comes into the taxon from the column.
 abbrev pub innOf : ℤ → ℕ
 innOf (pos n) = 0
 innOf (negsuc n) = suc n

@@ -8,10 +8,11 @@ use Rattle.taxa.specs.Sets.{has, _∩_, count}
 use Rattle.method.specs.Flow.{cutCost}
 use Rattle.search.specs.Network.{nth, caps}
 
--- For each column below m, the taxa that it joins in S; and what it lets through.
+-- For each column below m, the taxa that it joins in S.
 pub record Joins (O Z : List ℕ) (S m : ℕ) (J : List ℕ) : Type 0 where
   pub is : (c : ℕ) → c < m → nth J c ≡ cond (ltb 0 (count 64 (nth Z c ∩ S))) (nth O c ∩ S) 0
 
+-- For each column below m, what it lets through.
 pub record Limits (W Z : List ℕ) (S m : ℕ) (L : List ℕ) : Type 0 where
   pub is : (c : ℕ) → c < m → nth L c ≡ nth W c * count 64 (nth Z c ∩ S)
 

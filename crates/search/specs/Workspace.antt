@@ -11,10 +11,11 @@ use Rattle.search.specs.Signed.{outOf, innOf}
 unfoldable pub slot : ℕ → ℕ → ℕ → ℕ
 slot n c i = c * n + i
 
--- What goes from taxon i into column c, and what comes from column c into taxon i.
+-- What goes from taxon i into column c.
 unfoldable pub outs : List ℤ → ℕ → ℕ → ℕ → ℕ
 outs ws n c i = outOf (getD ws (slot n c i) (pos 0))
 
+-- What comes from column c into taxon i.
 unfoldable pub inns : List ℤ → ℕ → ℕ → ℕ → ℕ
 inns ws n c i = innOf (getD ws (slot n c i) (pos 0))
 
@@ -27,10 +28,11 @@ pub record Kept (k : ℕ) (ws ws′ : List ℤ) : Type 0 where
   pub long : length ws′ ≡ length ws
   pub rest : drop k ws′ ≡ drop k ws
 
--- d more from place a to place b, and what it asks.
+-- d more from place a to place b.
 abbrev pub sent : List ℤ → ℕ → ℕ → ℕ → List ℤ
 sent ws a b d = set (set ws a (getD ws a (pos 0) +ℤ pos d)) b (getD ws b (pos 0) -ℤ pos d)
 
+-- What that asks.
 pub record CanSend (ws : List ℤ) (a b d : ℕ) : Type 0 where
   pub from : a < length ws
   pub to : b < length ws

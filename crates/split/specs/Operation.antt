@@ -55,6 +55,7 @@ pub record Returned : Type 0 where
   pub side : ℕ
   pub t : ℕ
 
+-- These numbers, by the case.
 abbrev pub returned : Divided → Returned
 returned (Taken cost A t) = record { number = 0; place = 0; cost = cost; side = A; t = t }
 returned (Refused why) = record { number = why .number; place = why .place; cost = 0; side = 0; t = 0 }

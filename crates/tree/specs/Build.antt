@@ -76,10 +76,12 @@ pub record Returned : Type 0 where
   pub size : ℕ
   pub sum : ℕ
 
+-- These numbers, by the case.
 abbrev pub returned : Built → Returned
 returned (Taken size sum) = record { number = 0; place = 0; size = size; sum = sum }
 returned (Refused why) = record { number = why .number; place = why .place; size = 0; sum = 0 }
 
+-- The numbers that the build of a file returns.
 abbrev pub buildNumbers : List ℕ → ℕ → ℕ → Returned
 buildNumbers file space room = returned (built file space room)
 

@@ -26,11 +26,11 @@ pub record Ready (ws os zs : List ℕ) (S n : ℕ) (space : List ℤ) : Type 0 w
   pub places : n * length ws ≤ length space
   pub clear : cleared (n * length ws) space ≡ space
 
--- The walk from a group, on columns in three lists,
+-- The walk from a group, on columns in three lists.
 abbrev pub walkFrom : List ℕ → List ℕ → List ℕ → ℕ → Walk
 walkFrom ws os zs S = build 64 (length ws) (colsOf ws os zs) S
 
--- and the walk over sets, one after the other.
+-- The walk over sets, one after the other.
 abbrev pub walkOver : List ℕ → List ℕ → List ℕ → List ℕ → Walk
 walkOver ws os zs Ps = walked (build 64 (length ws)) (colsOf ws os zs) Ps
 
@@ -59,11 +59,12 @@ pub record Walked (os zs os′ zs′ : List ℕ) (n m : ℕ) (walked paid : List
   pub few : length (ordered 64 n (groupsOf walked paid k)) ≤ 63
   pub small : total (ordered 64 n (groupsOf walked paid k)) < 2 ^ 32
 
--- A content was handed to the writing of answers, with room for 256 flips.
+-- What writing a content answers, as the build's answer.
 abbrev pub writtenAs : Content → Written → Built
 writtenAs c (written.Length size) = Taken size (c .total)
 writtenAs c (written.Refused why) = Refused why
 
+-- A content was handed to the writing of answers, with room for 256 flips.
 pub record Answers (c : Content) (out : List ℕ) (r : Built) (out′ : List ℕ) : Type 0 where
   pub answers : r ≡ writtenAs c (writing c 256 (length out))
   pub output : out′ ≡ put (writing c 256 (length out)) (fileOf c) out
