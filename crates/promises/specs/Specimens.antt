@@ -8,37 +8,45 @@ use Rattle.tree.specs.Build as tree
 use Rattle.score.specs.Operation as scoring
 use Rattle.promises.specs.Held.{many}
 
--- ---- bytes
+-- ---- bytes, written out here once more, so that the table also tries the definitions of files
 
--- A number below 256 in 2, 4 and 8 bytes, "all little-endian".
+-- A number below 256 in 2 bytes, "all little-endian".
 abbrev two : ℕ → List ℕ
 two x = x ∷ 0 ∷ []
 
+-- In 4 bytes.
 abbrev four : ℕ → List ℕ
 four x = x ∷ 0 ∷ 0 ∷ 0 ∷ []
 
+-- In 8 bytes.
 abbrev eight : ℕ → List ℕ
 eight x = x ∷ 0 ∷ 0 ∷ 0 ∷ 0 ∷ 0 ∷ 0 ∷ 0 ∷ []
 
--- "Every record is length (2 bytes, payload only), kind (2 bytes), payload."
+-- A matrix head: "every record is length (2 bytes, payload only), kind (2 bytes), payload".
 abbrev head : ℕ → ℕ → List ℕ
 head n m = two 4 ++ two 1 ++ two n ++ two m
 
+-- A column: weight, 1-set, 0-set.
 abbrev column : ℕ → ℕ → ℕ → List ℕ
 column weight ones zeros = two 18 ++ two 2 ++ two weight ++ eight ones ++ eight zeros
 
+-- A matrix end.
 abbrev end : List ℕ
 end = two 0 ++ two 3
 
+-- An answer head: n, m, group count, flipped column count, total.
 abbrev answerHead : ℕ → ℕ → ℕ → ℕ → ℕ → List ℕ
 answerHead n m groups flips total = two 12 ++ two 17 ++ two n ++ two m ++ two groups ++ two flips ++ four total
 
+-- A group: taxa, split cost.
 abbrev group : ℕ → ℕ → List ℕ
 group taxa cost = two 12 ++ two 18 ++ eight taxa ++ four cost
 
+-- A column's flips: raised set, lowered set.
 abbrev flips : ℕ → ℕ → ℕ → List ℕ
 flips column raised lowered = two 18 ++ two 19 ++ two column ++ eight raised ++ eight lowered
 
+-- An answer end.
 abbrev answerEnd : List ℕ
 answerEnd = two 0 ++ two 20
 
@@ -58,7 +66,7 @@ pub record Told : Type 0 where
   pub second : ℕ
   pub bytes : List ℕ
 
--- The build is lent a workspace and an output just as long as document 01 asks.
+-- What the operations' definitions tell. The build is lent a workspace and an output just as long as document 01 asks.
 unfoldable pub tells : Asked → Told
 tells (check file) = let r = matrix.checkNumbers file in record { number = r .number; place = r .place; first = r .n; second = r .m; bytes = [] }
 tells (build file) =
