@@ -2,7 +2,6 @@
 ghost use mathlib.Core.Path.{_≡_};
 ghost use Prim.Native.Nat.{_<_, _≤_, _+_};
 ghost use lib.ListN.{getD};
-ghost use Rattle.taxa.specs.Sets as sets;
 ghost use Rattle.answer.specs.Rules as rules;
 ghost use Rattle.answer.specs.Tests as tests;
 use record::Cursor;
@@ -65,19 +64,12 @@ pub fn head_fault(n: u16, m: u16, groups: u16, flips: u16, listed: usize) -> u8
     0
 }
 
-// The lowest taxon of x; 64 if it has none.
-fn low(x: u64) -> u32
-    ensures { λ r. ⌜ r ≡ sets.low 64 x ⌝ }
-{
-    u64::trailing_zeros(x)
-}
-
 // Whether group x may stand right after group y.
 fn follows(y: u64, x: u64) -> bool
     ensures { λ r. ⌜ r ≡ rules.follows y x ⌝ }
 {
-    let before = low(y);
-    let here = low(x);
+    let before = taxa::low(y);
+    let here = taxa::low(x);
     if before < here {
         return true;
     }

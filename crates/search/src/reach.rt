@@ -10,12 +10,6 @@ ghost use Rattle.search.specs.Workspace.{outs, inns, Entry};
 ghost use Rattle.search.specs.Network.{nth, Ready};
 ghost use Rattle.search.specs.Reaching.{IsGate, Grow, Offered, Passed, Missed, Spread, Waiting, Planted, Found};
 
-fn least(x: u32, y: u32) -> u32
-    ensures { λ r. ⌜ r ≡ min x y ⌝ }
-{
-    if x < y { x } else { y }
-}
-
 fn greatest(x: u32, y: u32) -> u32
     ensures { λ r. ⌜ r ≡ max x y ⌝ }
 {
@@ -83,8 +77,8 @@ fn carry_to(g: Gate, ws: &[i32], n: usize, c: usize, j: usize) -> u32
 {
     let out = net::out_in(ws, n, c, j);
     let takes = spare(g.weight, out, net::inn_in(ws, n, c, j));
-    least(
-        least(g.sends, takes),
+    taxa::least(
+        taxa::least(g.sends, takes),
         greatest(greatest(g.back, out), g.room),
     )
 }
@@ -136,7 +130,7 @@ fn through(
     let mut left = taxa::difference(joined[c], met);
     while 0 < left {
         let j = taxa::lowest(left) as usize;
-        let k = least(carry_to(g, ws, n, c, j), tree[4 * i + 3]);
+        let k = taxa::least(carry_to(g, ws, n, c, j), tree[4 * i + 3]);
         all = offer(tree, all, j, i, c, stamp, k);
         left = taxa::rest(left);
     }

@@ -49,12 +49,6 @@ fn lower(it: Column, set: u64) -> Column
     }
 }
 
-fn least(x: u32, y: u32) -> u32
-    ensures { λ r. ⌜ r ≡ min x y ⌝ }
-{
-    if x < y { x } else { y }
-}
-
 // What a division of the group flips of a column: its 0s in the group are raised, or its ones on one side lowered.
 fn flip(it: Column, group: u64, side: u64) -> Column
     ensures { λ r. ⌜ columnOf r ≡ method.flip 64 group side (columnOf it) ⌝ }
@@ -63,7 +57,7 @@ fn flip(it: Column, group: u64, side: u64) -> Column
     let a = taxa::count_in(it.ones, side);
     let b = taxa::count_in(it.ones, rest);
     let z = taxa::count_in(it.zeros, group);
-    if z <= least(a, b) {
+    if z <= taxa::least(a, b) {
         return raise(it, group);
     }
     if a <= b {

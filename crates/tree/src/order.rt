@@ -38,7 +38,7 @@ pub fn put_group(
 fn starts_at(group: u64, i: u32) -> bool
     ensures { λ r. ⌜ r ≡ eqb (low 64 group) i ⌝ }
 {
-    u64::trailing_zeros(group) == i
+    taxa::low(group) == i
 }
 
 // The groups whose lowest taxon is i, as walked, after those that stand before `at`. Returns how many there are then.

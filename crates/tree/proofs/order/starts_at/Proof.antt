@@ -1,12 +1,13 @@
--- `tree::order::starts_at` meets its contract: trailing zeros give the lowest taxon.
-use mathlib.Core.Path.{refl}
-use Rattle.taxa.specs.Sets.{low}
+-- `tree::order::starts_at` meets its contract.
+use borrow.Author.Needs.{needs}
 use Rattle.tree.proofs.order.starts_at.Statement.{statement}
 use Rattle.tree.proofs.order.starts_at.Tie as tie
 
+low-requires : tie.Need-low-requires
+low-requires c κs = search needs
+
 returns : tie.Need-returns
-unfolding low
-returns c = refl
+returns c = rw (c .low .ensures)
 
 pub starts-at-spec : {M : Type 1} → statement M
-starts-at-spec = tie.close (tie.spec returns)
+starts-at-spec = tie.close (tie.spec low-requires returns)
