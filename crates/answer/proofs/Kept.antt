@@ -1,6 +1,6 @@
 -- A record with no fault keeps its rules: what a head, a group and a flips record that were passed say (`HeadKept`, `GroupKept`, `EntryKept`).
 use mathlib.Core.Path.{_≡_, refl}
-use mathlib.Core.Bool.{Bool, true, false, _||_, _&&_, not, cond, true≢false, and-eq-true-iff}
+use mathlib.Core.Bool.{Bool, true, false, _||_, _&&_, not, cond, and-eq-true-iff}
 use mathlib.Core.List.{List}
 use mathlib.Core.Logic.{_≢_}
 use Prim.Native.Nat.{ℕ, _≤_, _<_}
@@ -10,6 +10,7 @@ use lib.ListN.{getD}
 use borrow.Author.Tests.{ltb-true, ltb-false, eqb-true, eqb-false, not-true}
 use Rattle.taxa.specs.Sets.{_∩_, _∪_, _⊆_, within, count, all}
 use Rattle.taxa.proofs.Members.{within-⊆}
+use Rattle.record.proofs.Passing.{neither}
 use Rattle.answer.specs.Rules.{counted, headFault, placed, compatibleAll, groupFault, kept, entryFault, sumOf, totalFault}
 
 -- A test that would have given a number, and one that had to hold.
@@ -20,10 +21,6 @@ unless false k x p e = (refl, e)
 where-holds : (b : Bool) (k x : ℕ) → 0 < k → cond b x k ≡ 0 → (b ≡ true) × (x ≡ 0)
 where-holds true k x p e = (refl, e)
 where-holds false k x p e = absurd (omega arith)
-
-neither : (a b : Bool) → (a || b) ≡ false → (a ≡ false) × (b ≡ false)
-neither true b e = absurd (true≢false e)
-neither false b e = (refl, e)
 
 both : (a b : Bool) → (a && b) ≡ true → (a ≡ true) × (b ≡ true)
 both a b = and-eq-true-iff a b .0

@@ -13,14 +13,13 @@ use Rattle.record.proofs.Numbers.{at-lt}
 use Rattle.answer.specs.declared.Answer.{Answer}
 use Rattle.answer.specs.Content.{Content, contentIn, contentOf, lengthOf, groupsIn, flipsIn, taxaIn, costsIn, columnsFrom, raisedFrom, loweredFrom}
 use Rattle.answer.specs.Rules.{headFault, totalFault}
-use Rattle.answer.specs.Tests.{Meet, judge, inFile, asGiven, walk, headTest, groupTest, entryTest, flipsTest, endTest, tests, Legal}
+use Rattle.answer.specs.Tests.{judge, inFile, asGiven, walk, headTest, groupTest, entryTest, flipsTest, endTest, tests, Legal}
 use Rattle.answer.specs.Reading.{listed, fileTests}
-use Rattle.answer.proofs.Kept.{HeadKept}
 use Rattle.answer.proofs.Rows.{head-kept}
 use Rattle.answer.proofs.Runs.{length-entries}
 use Rattle.answer.proofs.Walks.{walk-carries, through-judge, met, group-met, entry-met, given-head, given-groups-move, given-flips-move}
 use Rattle.answer.proofs.Stages.{Staged, staged, ends-with}
-use Rattle.answer.proofs.Files.{Read, read-through}
+use Rattle.answer.proofs.Files.{read-through}
 
 -- A record with no fault passes.
 passes : {fault : ℕ} (place at : ℕ) {next : Cursor} → fault ≡ 0 → next .at ≡ at → At next ≡ judge fault place (record { at = at })

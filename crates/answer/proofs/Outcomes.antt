@@ -10,10 +10,8 @@ use Rattle.record.specs.Bytes.{numberAt, over}
 use Rattle.record.specs.Records.{refused}
 use Rattle.record.specs.declared.Cursor.{Cursor}
 use Rattle.record.specs.declared.Refusal.{Refusal}
-use Rattle.record.specs.declared.Passed.{Passed}
 use Rattle.record.specs.declared.Passed.the-variants.{At, Refused}
 use Rattle.answer.specs.declared.Reading.{Reading}
-use Rattle.answer.specs.declared.Verdict.{Verdict}
 use Rattle.answer.specs.declared.Verdict.the-variants as verdict
 use Rattle.answer.specs.declared.Answer.{Answer}
 use Rattle.answer.specs.declared.Written.the-variants as written
@@ -25,7 +23,7 @@ use Rattle.answer.specs.Writing.{writing, writeTests, Writes}
 use Rattle.answer.proofs.Kept.{HeadKept, EntryKept, entry-keeps}
 use Rattle.answer.proofs.Walks.{walk-each, given-head, given-entry}
 use Rattle.answer.proofs.Stages.{staged}
-use Rattle.answer.proofs.Files.{head-leads, groups-lead, flips-lead, Read, read-through}
+use Rattle.answer.proofs.Files.{head-leads, groups-lead, flips-lead, read-through}
 
 module _ (file columns raised lowered : List ℕ) where
   abbrev room : ℕ

@@ -64,7 +64,8 @@ reading-what-was-written a columns raised lowered t s fits {out} {out′} {size}
 
 -- ---- writing what was read
 
-took : (c : Content) (p : Passed) → answered c p .verdict ≡ verdict.Taken → (here : Cursor) × (At here ≡ p)
+-- A reading that is taken passed its tests.
+pub took : (c : Content) (p : Passed) → answered c p .verdict ≡ verdict.Taken → (here : Cursor) × (At here ≡ p)
 took c (At here) e = (here, refl)
 took c (Refused why) e = absurd (let z : _≡_ {A = ℕ} 0 1 = cc in omega arith)
 

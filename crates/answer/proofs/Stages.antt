@@ -1,6 +1,5 @@
 -- The tests of an answer, stage by stage, in a file or as given: which stage stops them (`head-stops` .. `flips-stop`), and how they end.
 use mathlib.Core.Path.{_≡_}
-use mathlib.Core.List.{List}
 use Prim.Native.Nat.{ℕ}
 use Rattle.record.specs.declared.Cursor.{Cursor}
 use Rattle.record.specs.declared.Refusal.{Refusal}

@@ -12,13 +12,13 @@ use Rattle.record.specs.declared.Cursor.{Cursor}
 use Rattle.record.specs.declared.Passed.the-variants.{At}
 use Rattle.record.proofs.Numbers.{read-then}
 use Rattle.record.proofs.Steps.{Held, record-bytes}
-use Rattle.answer.specs.Content.{Content, run, headBytes, groupBytes, flipsBytes, endBytes, groupOf, flipsOf, fileOf, lengthOf, contentIn, groupsIn, flipsIn, taxaIn, costsIn, columnsFrom, raisedFrom, loweredFrom, flipsStart}
+use Rattle.answer.specs.Content.{run, headBytes, groupBytes, flipsBytes, endBytes, groupOf, flipsOf, fileOf, lengthOf, contentIn, groupsIn, flipsIn, taxaIn, costsIn, columnsFrom, raisedFrom, loweredFrom, flipsStart}
 use Rattle.answer.specs.Rules.{totalFault}
 use Rattle.answer.specs.Tests.{inFile, walk, groupTest, flipsTest, endTest}
 use Rattle.answer.specs.Reading.{fileTests}
 use Rattle.answer.proofs.Runs.{entry, run-stands}
 use Rattle.answer.proofs.Walks.{met, head-met, group-met, entry-met, walk-each, groups-move, flips-move, taxa-there}
-use Rattle.answer.proofs.Files.{groups-lead, flips-lead, Read, read-through}
+use Rattle.answer.proofs.Files.{groups-lead, flips-lead, read-through}
 
 module _ {file : List ℕ} (f : File file) where
   -- ---- the records that were passed stand in the file

@@ -1,6 +1,5 @@
 -- Walks over records: one record more, and one that stops the walk; what a record that was met and passed says of the file.
 use mathlib.Core.Path.{_≡_, refl, sym, ap, _∙_, subst₂}
-use mathlib.Core.Bool.{Bool}
 use mathlib.Core.List.{List}
 use Prim.Native.Nat.{ℕ, zero, suc, _+_, _*_, _≤_, _<_}
 use native.Mathlib.Numerals.{add-one}

@@ -1,7 +1,6 @@
 // The rules of an answer, for reading and for writing: the number of the first refusal that a record meets, or 0.
 ghost use mathlib.Core.Path.{_≡_};
 ghost use Prim.Native.Nat.{_<_, _≤_, _+_};
-ghost use lib.ListN.{getD};
 ghost use Rattle.answer.specs.Rules as rules;
 ghost use Rattle.answer.specs.Tests as tests;
 use record::Cursor;

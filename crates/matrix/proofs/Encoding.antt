@@ -1,7 +1,7 @@
 -- The file of a legal matrix is taken (`file-taken`) and holds that matrix (`file-holds`).
 use mathlib.Core.Path.{_≡_, refl, sym, ap, _∙_}
 use mathlib.Core.List.{List, [], _∷_, _++_, append-assoc, append-nil}
-use Prim.Native.Nat.{ℕ, zero, suc, _+_, _*_, _^_, _≤_, _<_}
+use Prim.Native.Nat.{ℕ, suc, _+_, _*_, _^_, _≤_, _<_}
 use native.Mathlib.Nat.{add-zero, mul-zero}
 use native.Mathlib.Omega.{arith}
 use lib.Dec.{lit<}
@@ -10,7 +10,7 @@ use Rattle.taxa.specs.Sets.{_⊆_, all}
 use Rattle.taxa.proofs.Members.{⊆-≤, all-fits, within-⊆}
 use Rattle.record.specs.Bytes.{numberAt, bytesOf}
 use Rattle.record.specs.Records as records
-use Rattle.record.specs.Records.{recordOf, recordBytes}
+use Rattle.record.specs.Records.{recordOf}
 use Rattle.record.specs.declared.Cursor.{Cursor}
 use Rattle.record.specs.declared.Passed.the-variants.{At}
 use Rattle.record.proofs.Numbers.{length-bytes, field-read}

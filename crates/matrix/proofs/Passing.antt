@@ -1,30 +1,24 @@
 -- What a head, a column and an end that were passed say of the file (`Head`, `Passing`, `End`), and where the columns end.
-use mathlib.Core.Path.{_≡_, refl, ap, subst₂}
-use mathlib.Core.Bool.{Bool, true, false, _||_, _&&_, true≢false, and-eq-true-iff}
+use mathlib.Core.Path.{_≡_, subst₂}
+use mathlib.Core.Bool.{_||_, _&&_, and-eq-true-iff}
 use mathlib.Core.List.{List}
 use mathlib.Core.Logic.{_≢_}
-use Prim.Native.Nat.{ℕ, zero, suc, _+_, _*_, _≤_, _<_}
+use Prim.Native.Nat.{ℕ, _+_, _≤_, _<_}
 use native.Mathlib.Omega.{arith}
 use lib.Dec.{ltb, eqb}
-use lib.ListN.{length}
 use borrow.Author.Tests.{ltb-false, eqb-true, eqb-false}
 use Rattle.taxa.specs.Sets.{_∩_, _⊆_, within}
 use Rattle.taxa.proofs.Members.{within-⊆}
 use Rattle.record.specs.Bytes.{numberAt}
 use Rattle.record.specs.Records as records
-use Rattle.record.specs.Records.{recordOf, refused, step, nothingAfter}
+use Rattle.record.specs.Records.{recordOf, step}
 use Rattle.record.specs.declared.Cursor.{Cursor}
-use Rattle.record.specs.declared.Passed.the-variants.{At, Refused}
+use Rattle.record.specs.declared.Passed.the-variants.{At}
 use Rattle.record.proofs.Steps.{Held, held}
-use Rattle.record.proofs.Passing.{unless, where-holds, through-step, through}
+use Rattle.record.proofs.Passing.{neither, unless, where-holds, through-step}
 use Rattle.matrix.specs.declared.Column.{Column}
 use Rattle.matrix.specs.Matrix.{columnAt}
-use Rattle.matrix.specs.Check.{headJudged, headPassed, columnJudged, columnPassed, columnsPassed, endPassed}
-
--- Neither of two tests held.
-neither : (a b : Bool) → (a || b) ≡ false → (a ≡ false) × (b ≡ false)
-neither true b e = absurd (true≢false e)
-neither false b e = (refl, e)
+use Rattle.matrix.specs.Check.{headJudged, headPassed, columnJudged, columnPassed}
 
 same-cursor : {a c : Cursor} → At a ≡ At c → c ≡ a
 same-cursor e = cc

@@ -1,13 +1,13 @@
 -- The check refuses by the numbers 1 to 8, at places in the largest matrix file or right after it (`refusal-small`).
-use mathlib.Core.Path.{_≡_, refl, sym, ap, _∙_}
-use mathlib.Core.Bool.{Bool, true, false, _||_, _&&_, cond}
+use mathlib.Core.Path.{_≡_}
+use mathlib.Core.Bool.{_||_, _&&_}
 use mathlib.Core.List.{List}
 use Prim.Native.Nat.{ℕ, zero, suc, _+_, _*_, _≤_, _<_}
 use native.Mathlib.Omega.{arith}
 use lib.Dec.{ltb, eqb, lit<, lit≤}
 use Rattle.taxa.specs.Sets.{_∩_, within, all}
 use Rattle.record.specs.Bytes.{numberAt}
-use Rattle.record.specs.Records.{recordOf, payload, left, judged, onward, nothingAfter, step}
+use Rattle.record.specs.Records.{recordOf, payload, left, judged, nothingAfter, step}
 use Rattle.record.specs.Records as records
 use Rattle.record.specs.declared.Cursor.{Cursor}
 use Rattle.record.specs.declared.Refusal.{Refusal}

@@ -1,8 +1,8 @@
 -- A file that the check takes is the file of the matrix in it (`taken-is-file`), that matrix is legal (`taken-legal`), and so two files that are taken
 -- and hold the same matrix are the same bytes (`same-matrix-same-file`).
 use mathlib.Core.Path.{_≡_, refl, sym, ap, _∙_, subst}
-use mathlib.Core.List.{List, [], _∷_, _++_, append-assoc, append-nil}
-use Prim.Native.Nat.{ℕ, zero, suc, _+_, _*_, _≤_, _<_}
+use mathlib.Core.List.{List, [], _++_, append-assoc, append-nil}
+use Prim.Native.Nat.{ℕ, zero, suc, _+_, _*_, _≤_}
 use native.Mathlib.Nat.{add-zero, mul-zero}
 use native.Mathlib.Omega.{arith}
 use lib.ListN.{length, drop, drop-of-length-le}
@@ -11,16 +11,15 @@ use lib.Dec.{ltb}
 use Rattle.taxa.specs.Sets.{all}
 use Rattle.record.specs.Bytes.{numberAt, bytesOf, File}
 use Rattle.record.specs.Records as records
-use Rattle.record.specs.Records.{recordOf, recordBytes, left, step, onward, nothingAfter}
+use Rattle.record.specs.Records.{recordOf, left, step, nothingAfter}
 use Rattle.record.specs.declared.Cursor.{Cursor}
 use Rattle.record.specs.declared.Passed.{Passed}
 use Rattle.record.specs.declared.Passed.the-variants.{At, Refused}
 use Rattle.record.proofs.Numbers.{at-lt, read-then}
 use Rattle.record.proofs.Steps.{Held, held, record-bytes}
 use Rattle.record.proofs.Passing.{unless, through-step, through}
-use Rattle.matrix.specs.declared.Column.{Column}
 use Rattle.matrix.specs.declared.Checked.the-variants.{Taken}
-use Rattle.matrix.specs.Matrix.{Matrix, Legal, LegalColumn, LegalColumns, none, one, headBytes, columnBytes, columnsBytes, endBytes, fileOf, columnAt, columnsFrom, matrixOf}
+use Rattle.matrix.specs.Matrix.{Legal, LegalColumn, LegalColumns, none, one, headBytes, columnBytes, columnsBytes, endBytes, fileOf, columnAt, columnsFrom, matrixOf}
 use Rattle.matrix.specs.Check.{headPassed, columnPassed, columnsPassed, endPassed, filePassed, answered, checked}
 use Rattle.matrix.proofs.Passing.{Head, head, Passing, passing}
 

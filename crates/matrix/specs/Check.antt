@@ -1,5 +1,5 @@
 -- The operation "check a matrix": refusals 1 to 8 in document 01's order, "within a record by number".
-use mathlib.Core.Bool.{Bool, _||_, _&&_, not, cond}
+use mathlib.Core.Bool.{_||_, _&&_, cond}
 use mathlib.Core.List.{List}
 use Prim.Native.Nat.{ℕ, zero, suc, _+_}
 use lib.Dec.{ltb, eqb}

@@ -11,7 +11,6 @@ use record::number::u64_at;
 ghost use mathlib.Core.Path.{_≡_};
 ghost use Prim.Native.Nat.{_+_, _*_, _≤_};
 ghost use lib.ListN.{length};
-ghost use Rattle.taxa.specs.Sets as sets;
 ghost use Rattle.matrix.specs.Matrix.{columnAt, columnIn};
 ghost use Rattle.matrix.specs.Check as check;
 

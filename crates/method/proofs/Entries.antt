@@ -75,16 +75,17 @@ Kept file X c = ((i : ℕ) → i ∈ X → Same file c i) ⊎ Settled X c
 
 -- ---- one split, one column
 
-module _ (k S A : ℕ) (s : A ⊆ S) (c : Column) where
-  pub flip-weight : flip k S A c .weight ≡ c .weight
-  unfolding raise lower
-  flip-weight = go (flip-is k S A c)
-    where
-      go : {d : Column} → Flip k S A c d → d .weight ≡ c .weight
-      go (up h l) = refl
-      go (left h l) = refl
-      go (right h l) = refl
+-- Flips keep the weight.
+pub flip-weight : (k S A : ℕ) (c : Column) → flip k S A c .weight ≡ c .weight
+unfolding raise lower
+flip-weight k S A c = go (flip-is k S A c)
+  where
+    go : {d : Column} → Flip k S A c d → d .weight ≡ c .weight
+    go (up h l) = refl
+    go (left h l) = refl
+    go (right h l) = refl
 
+module _ (k S A : ℕ) (s : A ⊆ S) (c : Column) where
   pub flip-known : known (flip k S A c) ≡ known c
   flip-known = go (flip-is k S A c)
     where

@@ -30,7 +30,7 @@ module _ (k m : ℕ) (cols : ℕ → Column) (S : ℕ) (fits : S < 2 ^ k) (two :
 
   pub after-weight : (c : ℕ) → next-cols c .weight ≡ cols c .weight
   unfolding flipped
-  after-weight c = flip-weight k S A part-of (cols c)
+  after-weight c = flip-weight k S A (cols c)
 
   pub after-known : (c : ℕ) → known (next-cols c) ≡ known (cols c)
   unfolding flipped

@@ -1,14 +1,12 @@
 -- Demand 2: "one matrix, one answer. Answer files read back to what was written, and no two accepted files, matrix or answer, carry the same content."
 -- And two results that the contract of an operation allows coincide.
-use mathlib.Core.Path.{_≡_, refl, sym, ap, _∙_}
+use mathlib.Core.Path.{_≡_, sym, ap, _∙_}
 use mathlib.Core.List.{List}
 use Prim.Native.Nat.{ℕ}
-use native.Mathlib.Omega.{arith}
 use lib.IntN.{ℤ}
 use Rattle.record.specs.Bytes.{File}
 use Rattle.record.specs.declared.Cursor.{Cursor}
-use Rattle.record.specs.declared.Passed.{Passed}
-use Rattle.record.specs.declared.Passed.the-variants.{At, Refused}
+use Rattle.record.specs.declared.Passed.the-variants.{At}
 use Rattle.record.proofs.Passing.{through}
 use Rattle.score.specs.Operation.{scored}
 use Rattle.score.specs.declared.Scored.{Scored}
@@ -21,10 +19,10 @@ use Rattle.answer.specs.declared.Reading.{Reading}
 use Rattle.answer.specs.declared.Verdict.the-variants as verdict
 use Rattle.answer.specs.declared.Written.{Written}
 use Rattle.answer.specs.Content.{Content, contentIn, contentOf, fileOf}
-use Rattle.answer.specs.Reading.{fileTests, readTests, reading, answered, listed, filled, Reads}
+use Rattle.answer.specs.Reading.{fileTests, readTests, reading, listed, filled, Reads}
 use Rattle.answer.specs.Writing.{Writes, put}
 use Rattle.answer.proofs.Taken.{same-content-same-file}
-use Rattle.answer.proofs.RoundTrip.{read-content}
+use Rattle.answer.proofs.RoundTrip.{took, read-content}
 use Rattle.split.specs.declared.Divided.{Divided}
 use Rattle.split.specs.Operation as split
 use Rattle.tree.specs.declared.Built.{Built}
@@ -83,14 +81,10 @@ pub no-two-matrix-files : {file file′ : List ℕ} {n m n′ m′ : ℕ} → Fi
 no-two-matrix-files = same-matrix-same-file
 
 -- An answer file that reading takes passes the tests of its file.
-passes : (c : Content) (p : Passed) → answered c p .verdict ≡ verdict.Taken → (here : Cursor) × (At here ≡ p)
-passes c (At here) e = (here, refl)
-passes c (Refused why) e = absurd (let z : _≡_ {A = ℕ} 0 1 = cc in omega arith)
-
 accepted : {file cs us ds : List ℕ} {r : Reading} {cs′ us′ ds′ : List ℕ} → Reads file cs us ds r cs′ us′ ds′ → r .verdict ≡ verdict.Taken → (next : Cursor) × (At next ≡ fileTests file)
 unfolding reading readTests
 accepted {file} {cs} {us} {ds} x t =
-    let (here, p) = passes (contentIn file) (readTests file (listed cs us ds)) (sym (ap (λ (r : Reading). r .verdict) (x .answers)) ∙ t) in
+    let (here, p) = took (contentIn file) (readTests file (listed cs us ds)) (sym (ap (λ (r : Reading). r .verdict) (x .answers)) ∙ t) in
     let (next, passed, rest) = through (fileTests file) p in
     (next, passed)
 

@@ -1,7 +1,7 @@
 -- Numbers as bytes, once over the width: a wide number is two narrow ones (`at-add`, `bytes-add`), what stands in a file is the bytes of
 -- what is read there (`read-bytes`), and bytes that stand in a file are read back (`bytes-read`).
 use mathlib.Core.Path.{_≡_, refl, sym, ap, _∙_}
-use mathlib.Core.List.{List, [], _∷_, _++_, append-assoc}
+use mathlib.Core.List.{List, [], _∷_, _++_}
 use Prim.Native.Nat.{ℕ, zero, suc, _+_, _*_, _/_, _%_, _^_, _≤_, _<_}
 use native.Mathlib.Nat.{add-zero, zero-add, pow-suc, pow-succ', suc-add, mul-suc, mul-assoc, add-comm, div-one}
 use native.Mathlib.Numerals.{add-one}

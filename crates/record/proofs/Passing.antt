@@ -1,7 +1,7 @@
 -- A reading that passes has passed each of its tests and steps: how a test that would have refused (`unless`), one that had to hold (`where-holds`),
 -- a step (`through-step`) and a reading before another (`through`) are undone.
 use mathlib.Core.Path.{_≡_, refl}
-use mathlib.Core.Bool.{Bool, true, false, cond}
+use mathlib.Core.Bool.{Bool, true, false, _||_, cond, true≢false}
 use Prim.Native.Nat.{ℕ}
 use native.Mathlib.Omega.{arith}
 use Rattle.record.specs.Records.{judged, onward}
@@ -11,6 +11,11 @@ use Rattle.record.specs.declared.Step.{Step}
 use Rattle.record.specs.declared.Step.the-variants as step
 use Rattle.record.specs.declared.Passed.{Passed}
 use Rattle.record.specs.declared.Passed.the-variants.{At, Refused}
+
+-- Neither of two tests held.
+pub neither : (a b : Bool) → (a || b) ≡ false → (a ≡ false) × (b ≡ false)
+neither true b e = absurd (true≢false e)
+neither false b e = (refl, e)
 
 never : {next : Cursor} {why : Refusal} → At next ≡ Refused why → ⊥
 never e = let z : _≡_ {A = ℕ} 0 1 = cc in omega arith

@@ -1,5 +1,5 @@
 -- Records (document 01): "length (2 bytes, payload only), kind (2 bytes), payload". What reading one finds, and how one is written.
-use mathlib.Core.Bool.{Bool, _&&_, cond}
+use mathlib.Core.Bool.{_&&_, cond}
 use mathlib.Core.List.{List, _++_}
 use Prim.Native.Nat.{ℕ, _+_, _-_}
 use lib.ListN.{length}

@@ -1,5 +1,5 @@
 -- A loop over the columns flips them as the method does (`all-flipped`).
-use mathlib.Core.Path.{_≡_, refl, sym, ap, _∙_, fun-ext}
+use mathlib.Core.Path.{_≡_, sym, ap, _∙_, fun-ext}
 use mathlib.Core.List.{List}
 use mathlib.Core.Logic.{⊎-elim}
 use Prim.Native.Nat.{ℕ, _+_, _≤_, _<_, min}
@@ -11,6 +11,7 @@ use Rattle.taxa.proofs.Members.{in∩, in∖, in∪, none, empty}
 use Rattle.matrix.specs.declared.Column as matrix
 use Rattle.method.specs.Split.{Column, raise, lower, flip, flipped}
 use Rattle.method.proofs.Flips.{Flip, up, left, right, flip-is}
+use Rattle.method.proofs.Entries.{flip-weight}
 use Rattle.search.specs.Search.{colsOf}
 use Rattle.split.specs.Columns.{columnOf, Parallel}
 use Rattle.split.proofs.Filling.{Filled, fill-one, fill-all}
@@ -49,17 +50,7 @@ nothing-less : (X : ℕ) → 0 ∖ X ≡ 0
 nothing-less X = empty (λ i h. none (in∖ 0 X .0 h .0))
 
 module _ (k S A : ℕ) (c : Column) where
-  -- Flips keep the weight,
-  flip-weight : flip k S A c .weight ≡ c .weight
-  unfolding raise lower
-  flip-weight = go (flip-is k S A c)
-    where
-      go : {d : Column} → Flip k S A c d → d .weight ≡ c .weight
-      go (up h l) = refl
-      go (left h l) = refl
-      go (right h l) = refl
-
-  -- and a column with no entries stays so.
+  -- A column with no entries stays so.
   flip-nothing : c .ones ≡ 0 → c .zeros ≡ 0 → (flip k S A c .ones ≡ 0) × (flip k S A c .zeros ≡ 0)
   unfolding raise lower
   flip-nothing o z = go (flip-is k S A c)

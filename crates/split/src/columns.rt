@@ -1,7 +1,7 @@
 // The columns of a matrix in three lent slices, one entry a column: loaded from a file, and flipped by a division.
 use matrix::Column;
 ghost use mathlib.Core.Path.{_≡_};
-ghost use Prim.Native.Nat.{_+_, _*_, _≤_, min};
+ghost use Prim.Native.Nat.{_+_, _*_, _≤_};
 ghost use lib.ListN.{length};
 ghost use Rattle.method.specs.Split as method;
 ghost use Rattle.method.specs.Tree.{column};

@@ -1,17 +1,15 @@
 -- The build of a file that nothing refuses: what its steps ask for (`grow-ready`, `grow-room`, `to-write`), that what they come to is the content of the
 -- method's answer (`built-content`), and that writing it is not refused (`written-all`). Then the rows of
 -- the operation's table.
-use mathlib.Core.Path.{_≡_, refl, sym, ap, ap₂, _∙_}
-use mathlib.Core.Bool.{cond}
-use mathlib.Core.List.{List, [], _∷_, _++_}
-use Prim.Native.Nat.{ℕ, zero, suc, _+_, _*_, _^_, _≤_, _<_}
+use mathlib.Core.Path.{_≡_, refl, ap, _∙_}
+use mathlib.Core.List.{List, _++_}
+use Prim.Native.Nat.{ℕ, zero, suc, _+_, _*_, _≤_, _<_}
 use native.Mathlib.Omega.{arith}
-use lib.Dec.{eqb, ltb}
 use lib.IntN.{ℤ, pos}
 use lib.ListN.{length, drop, replicate, length-replicate}
 use lib.Seq.{drop-at}
 use borrow.Author.Tests.{lt-ltb, le-ltb}
-use Rattle.taxa.specs.Sets.{_∩_, count, all}
+use Rattle.taxa.specs.Sets.{count, all}
 use Rattle.taxa.proofs.Members.{all-<, all-fits}
 use Rattle.taxa.proofs.Counts.{count-le, count-all}
 use Rattle.record.specs.Bytes.{File, over}
@@ -25,7 +23,7 @@ use Rattle.answer.specs.Content.{Content, fileOf, lengthOf}
 use Rattle.answer.specs.Tests.{judge}
 use Rattle.answer.specs.Writing.{writeTests, writing}
 use Rattle.method.specs.Split.{Column}
-use Rattle.method.specs.Tree.{Group, Flips, Matrix, Sound, column, build, ordered, flipsOf, flipList, answer, total}
+use Rattle.method.specs.Tree.{Matrix, Sound, column, build, ordered, flipList, answer}
 use Rattle.method.proofs.Order.{build-length}
 use Rattle.method.proofs.Promises as promises
 use Rattle.search.specs.Workspace.{cleared}

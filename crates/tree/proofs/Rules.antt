@@ -1,9 +1,9 @@
 -- The answer to a sound matrix keeps the rules of an answer file, so writing it is never refused but for room (`answer-passes`, `answer-legal`).
-use mathlib.Core.Path.{_≡_, refl, sym, ap, _∙_, subst}
-use mathlib.Core.Bool.{Bool, true, false, _||_, _&&_, not, cond}
+use mathlib.Core.Path.{_≡_, refl, sym, ap, _∙_}
+use mathlib.Core.Bool.{Bool, true, false, _||_, _&&_, cond}
 use mathlib.Core.List.{List, [], _∷_, map, List·Memᴰ, List·Memᴰ·head, List·Memᴰ·tail}
 use mathlib.Core.Logic.{_≢_, _⊎_, inl, inr}
-use Prim.Native.Nat.{ℕ, zero, suc, _+_, _*_, _^_, _≤_, _<_}
+use Prim.Native.Nat.{ℕ, zero, suc, _+_, _*_, _≤_, _<_}
 use native.Mathlib.Nat.{mul-suc}
 use native.Mathlib.Omega.{arith}
 use lib.Dec.{ltb, eqb}
@@ -20,7 +20,7 @@ use Rattle.record.specs.declared.Passed.{Passed}
 use Rattle.record.specs.declared.Passed.the-variants.{At}
 use Rattle.answer.specs.Content.{Content, lengthOf}
 use Rattle.answer.specs.Tests.{judge, asGiven, walk, headTest, groupTest, entryTest, flipsTest, endTest, tests, Legal}
-use Rattle.answer.specs.Rules.{counted, headFault, follows, placed, compatible, compatibleAll, groupFault, floorOf, kept, entryFault, sumOf, totalFault}
+use Rattle.answer.specs.Rules.{counted, headFault, follows, placed, compatible, compatibleAll, groupFault, floorOf, kept, entryFault, totalFault}
 use Rattle.tree.specs.Build.{contentWith, contentFor, roomFor}
 use Rattle.tree.proofs.Lists.{list-few}
 

@@ -19,7 +19,6 @@ use Rattle.method.proofs.Parts.{inside-R}
 use Rattle.method.proofs.Splits.{split-parts, part-in}
 use Rattle.search.specs.Search.{colsOf}
 use Rattle.split.specs.Columns.{Parallel}
-use Rattle.tree.specs.Lists.{groupsOf}
 use Rattle.tree.specs.Grow.{Ready, Grown, AllSmall}
 
 module _ (g : (ℕ → Column) → ℕ → Walk) (Ps : List ℕ) where

@@ -1,10 +1,9 @@
 -- The value that is handed to the writing of answers holds the content that the lists of groups and flips make (`content-is`).
-use mathlib.Core.Path.{_≡_, refl, sym, ap, _∙_}
+use mathlib.Core.Path.{_≡_, sym, ap, _∙_}
 use mathlib.Core.List.{List, map}
-use Prim.Native.Nat.{ℕ, _≤_}
+use Prim.Native.Nat.{ℕ}
 use lib.ListN.{length}
 use Rattle.method.specs.Tree.{Group, Flips, total}
-use Rattle.answer.specs.declared.Answer.{Answer}
 use Rattle.answer.specs.declared.Written.{Written}
 use Rattle.answer.specs.Content.{Content, contentOf}
 use Rattle.answer.specs.Writing.{Writes}

@@ -5,7 +5,6 @@ use Prim.Native.Nat.{_≤_}
 use Rattle.record.specs.Records.{passedRefusal}
 use Rattle.record.specs.declared.Passed.the-variants.{At, Refused}
 use Rattle.answer.specs.declared.Answer.{Answer}
-use Rattle.answer.specs.declared.Reading.{Reading}
 use Rattle.answer.specs.declared.Verdict.the-variants as verdict
 use Rattle.answer.specs.Content.{flipsIn}
 use Rattle.answer.specs.Reading.{listed, fileTests}

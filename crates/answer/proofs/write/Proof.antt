@@ -3,7 +3,6 @@ use borrow.Author.Needs.{needs}
 use mathlib.Core.Path.{_≡_, sym, ap, _∙_}
 use Prim.Native.Nat.{ℕ}
 use Rattle.record.specs.Records.{passedRefusal}
-use Rattle.record.specs.declared.Refusal.{Refusal}
 use Rattle.record.specs.declared.Passed.the-variants.{At, Refused}
 use Rattle.answer.specs.Content.{Content, contentOf}
 use Rattle.answer.specs.Tests.{asGiven, tests}

@@ -1,8 +1,8 @@
 -- `score::nearest_leaf` meets its contract. The invariant: `best` counts among those passed.
 use borrow.Author.Needs.{needs}
 use native.Mathlib.Omega.{arith}
-use mathlib.Core.Path.{_≡_, refl, ap, _∙_}
-use Prim.Native.Nat.{ℕ, _+_, _-_, _≤_}
+use mathlib.Core.Path.{_≡_, refl}
+use Prim.Native.Nat.{_-_, _≤_}
 use Rattle.score.proofs.Nearest.{one-more}
 use Rattle.score.specs.Score.{nearestIn, leaf}
 use Rattle.score.proofs.nearest_leaf.Statement.{statement}

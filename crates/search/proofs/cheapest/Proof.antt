@@ -4,7 +4,6 @@ use native.Mathlib.Omega.{arith}
 use mathlib.Core.Path.{_≡_}
 use Prim.Native.Nat.{_<_, _≤_, _-_, _*_}
 use Rattle.taxa.proofs.Counts.{count-pos}
-use Rattle.taxa.proofs.Members.{below}
 use Rattle.search.specs.Workspace.{Kept}
 use Rattle.search.specs.Trying.{Tried}
 use Rattle.search.proofs.Workspace.{kept-none, kept-then}

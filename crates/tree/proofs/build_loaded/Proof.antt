@@ -1,7 +1,7 @@
 -- `tree::build_loaded` meets its contract: the columns loaded twice, the workspace cleared, the walk from all taxa, and its answer written.
 use borrow.Author.Needs.{needs}
 use native.Mathlib.Omega.{arith}
-use mathlib.Core.Path.{_≡_, refl, sym, _∙_}
+use mathlib.Core.Path.{refl, sym, _∙_}
 use Rattle.record.specs.Bytes.{File}
 use Rattle.split.proofs.Soundness.{can-load, few-pairs, few-taxa}
 use Rattle.tree.proofs.Building.{grow-ready, list-room, grow-room, to-write, built-content, answers-all}

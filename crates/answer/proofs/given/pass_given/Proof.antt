@@ -1,9 +1,8 @@
 -- `answer::given::pass_given` meets its contract: each stage that refuses stops the tests, and the last one ends them.
 use borrow.Author.Needs.{needs}
 use mathlib.Core.Path.{_≡_, sym, _∙_}
-use mathlib.Core.List.{List}
-use Prim.Native.Nat.{ℕ, _+_, _*_}
-use Rattle.record.specs.declared.Passed.the-variants.{At, Refused}
+use Prim.Native.Nat.{_+_, _*_}
+use Rattle.record.specs.declared.Passed.the-variants.{At}
 use Rattle.answer.specs.Content.{Content, contentOf}
 use Rattle.answer.specs.Tests.{asGiven, headTest, endTest}
 use Rattle.answer.proofs.Kept.{HeadKept}

@@ -1,7 +1,7 @@
 -- `answer::reader::fill` meets its contract. The invariant: the entries filled so far stand in front of each part.
 use borrow.Author.Needs.{needs}
 use mathlib.Core.Path.{_≡_, refl}
-use Prim.Native.Nat.{ℕ, _+_, _*_, _-_, _≤_}
+use Prim.Native.Nat.{_+_, _*_, _-_, _≤_}
 use lib.ListN.{length, length-set}
 use Rattle.record.specs.Bytes.{numberAt, over}
 use Rattle.record.proofs.Over.{nothing}

@@ -4,8 +4,7 @@ use mathlib.Core.Path.{_≡_, sym, _∙_}
 use Prim.Native.Nat.{_+_}
 use Rattle.record.specs.Records as records
 use Rattle.record.specs.Records.{step, recordOf}
-use Rattle.record.specs.declared.Cursor.{Cursor}
-use Rattle.record.proofs.Steps.{Held, held}
+use Rattle.record.proofs.Steps.{held}
 use Rattle.answer.specs.Tests.{entryTest}
 use native.Mathlib.Omega.{arith}
 use Rattle.answer.proofs.reader.pass_entry.Statement.{statement}

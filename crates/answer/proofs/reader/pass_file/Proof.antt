@@ -5,8 +5,7 @@ use mathlib.Core.List.{List}
 use Prim.Native.Nat.{ℕ, _≤_}
 use lib.ListN.{length}
 use Rattle.record.specs.Bytes.{numberAt}
-use Rattle.record.specs.declared.Cursor.{Cursor}
-use Rattle.record.specs.declared.Passed.the-variants.{At, Refused}
+use Rattle.record.specs.declared.Passed.the-variants.{At}
 use Rattle.answer.specs.Content.{contentIn, groupsIn, flipsIn, flipsStart, columnsFrom, raisedFrom, loweredFrom}
 use Rattle.answer.specs.Tests.{inFile, walk, flipsTest, tests}
 use Rattle.answer.proofs.Kept.{HeadKept}

@@ -5,8 +5,7 @@ use Prim.Native.Nat.{_≤_}
 use lib.ListN.{length}
 use Rattle.record.specs.Records as records
 use Rattle.record.specs.Records.{step, recordOf}
-use Rattle.record.specs.declared.Cursor.{Cursor}
-use Rattle.record.proofs.Steps.{Held, held}
+use Rattle.record.proofs.Steps.{held}
 use Rattle.answer.specs.Tests.{headTest}
 use native.Mathlib.Omega.{arith}
 use Rattle.answer.proofs.reader.pass_head.Statement.{statement}

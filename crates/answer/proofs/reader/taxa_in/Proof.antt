@@ -1,7 +1,7 @@
 -- `answer::reader::taxa_in` meets its contract. The invariant: those read so far stand in front.
 use borrow.Author.Needs.{needs}
 use mathlib.Core.Path.{_≡_, refl}
-use Prim.Native.Nat.{ℕ, _+_, _*_, _-_, _≤_}
+use Prim.Native.Nat.{_+_, _*_, _-_, _≤_}
 use lib.ListN.{length, replicate}
 use Rattle.record.specs.Bytes.{numberAt, over}
 use Rattle.record.proofs.Over.{nothing}

@@ -1,7 +1,7 @@
 -- `answer::rules::entry_fault` meets its contract: each return is a row of the flips' table.
 use borrow.Author.Needs.{needs}
 use mathlib.Core.Path.{_≡_, sym, _∙_}
-use mathlib.Core.Bool.{Bool, true}
+use mathlib.Core.Bool.{true}
 use borrow.Author.Tests.{not-true, not-false}
 use Rattle.taxa.specs.Sets.{within, all}
 use Rattle.answer.proofs.Rows.{raised-unknown, lowered-unknown, flips-broken, flips-kept}

@@ -1,7 +1,7 @@
 -- `answer::rules::group_fault` meets its contract: each return is a row of the groups' table.
 use borrow.Author.Needs.{needs}
 use mathlib.Core.Path.{_≡_, sym, _∙_}
-use mathlib.Core.Bool.{Bool, true}
+use mathlib.Core.Bool.{true}
 use Prim.Native.Nat.{_<_}
 use lib.ListN.{getD}
 use borrow.Author.Tests.{not-true, not-false}

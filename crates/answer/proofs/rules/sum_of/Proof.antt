@@ -1,7 +1,7 @@
 -- `answer::rules::sum_of` meets its contract. The invariant: the sum of those passed, each below 2 to the 32.
 use borrow.Author.Needs.{needs}
 use mathlib.Core.Path.{_≡_, refl}
-use Prim.Native.Nat.{ℕ, _≤_, _-_, _*_}
+use Prim.Native.Nat.{_≤_, _-_, _*_}
 use lib.ListN.{getD}
 use Rattle.taxa.specs.Sum.{sum}
 use Rattle.taxa.proofs.Sums.{sum-next}

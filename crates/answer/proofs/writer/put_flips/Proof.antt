@@ -1,7 +1,7 @@
 -- `answer::writer::put_flips` meets its contract. The invariant: the records written so far stand at the front.
 use borrow.Author.Needs.{needs}
 use mathlib.Core.Path.{_≡_}
-use Prim.Native.Nat.{ℕ, _≤_, _*_, _-_}
+use Prim.Native.Nat.{_≤_, _*_, _-_}
 use lib.ListN.{length}
 use Rattle.record.specs.Bytes.{over}
 use Rattle.record.proofs.Over.{nothing, next}

@@ -1,5 +1,4 @@
 -- `record::Record::of` meets its contract: each arm is a row of the table.
-use mathlib.Core.Path.{_≡_}
 use borrow.Author.Tests.{ne-eqb}
 use Rattle.record.proofs.Record.of.Statement.{statement}
 use Rattle.record.proofs.Record.of.Tie as tie

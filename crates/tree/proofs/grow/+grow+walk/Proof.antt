@@ -3,17 +3,16 @@
 use Prim.Native.Nat.{ℕ, _+_, _-_, _*_, _≤_, _<_}
 use borrow.Author.Needs.{needs}
 use native.Mathlib.Omega.{arith}
-use mathlib.Core.Path.{_≡_, refl, sym, ap, _∙_}
+use mathlib.Core.Path.{_≡_, refl, _∙_}
 use lib.ListN.{length, take}
 use lib.Pow.{pow-pos}
 use lib.Seq.{length-take-le}
 use borrow.Rule.Slice.PartMut.{take-put}
 use Rattle.taxa.specs.Sets.{count}
-use Rattle.taxa.proofs.Counts.{count-le}
-use Rattle.method.specs.Tree.{build, walked}
+use Rattle.method.specs.Tree.{build}
 use Rattle.search.specs.Search.{colsOf}
 use Rattle.split.specs.Columns.{Parallel}
-use Rattle.tree.specs.Lists.{groupsOf, Room}
+use Rattle.tree.specs.Lists.{groupsOf}
 use Rattle.tree.proofs.Walking.{Going, going-start, going-room, going-next, going-end, one-taxon, still-listed, rest-length, ready-part, ready-wide}
 use Rattle.tree.proofs.Opening.{search-given, listed-parts, listed-fits, parts-ready, parts-room, grown-group, first-room}
 use borrow.Fn.Kinds.{In}

@@ -1,9 +1,9 @@
 -- `tree::order::keep_lowest` meets its contract. The invariant: what stands is what stood, and what is kept of the groups passed.
 use borrow.Author.Needs.{needs}
 use native.Mathlib.Omega.{arith}
-use mathlib.Core.Path.{_≡_, refl, sym, ap, _∙_}
+use mathlib.Core.Path.{_≡_, refl, sym, _∙_}
 use mathlib.Core.List.{_++_, append-nil, append-assoc}
-use Prim.Native.Nat.{ℕ, _+_, _-_, _≤_}
+use Prim.Native.Nat.{_+_, _-_, _≤_}
 use lib.ListN.{length}
 use Rattle.method.specs.Tree.{kept}
 use Rattle.tree.specs.Lists.{groupsOf, startsAt}
