@@ -1,12 +1,11 @@
 -- The file of a legal content is taken (`file-taken`) and holds that content (`file-holds`).
 use mathlib.Core.Path.{_≡_, refl, sym, ap, _∙_}
 use mathlib.Core.List.{List, [], _++_, append-assoc, append-nil}
-use Prim.Native.Nat.{ℕ, _+_, _*_, _^_, _≤_, _<_}
+use Prim.Native.Nat.{ℕ, _+_, _*_, _^_, _<_}
 use native.Mathlib.Omega.{arith}
 use lib.Dec.{lit<}
 use lib.ListN.{getD, drop, length-append}
-use Rattle.taxa.specs.Sets.{_⊆_, all}
-use Rattle.taxa.proofs.Members.{⊆-≤, all-fits}
+use Rattle.taxa.proofs.Members.{set-fits}
 use Rattle.taxa.proofs.Sums.{sum-next, sum-mono}
 use Rattle.record.specs.Bytes.{numberAt, bytesOf}
 use Rattle.record.specs.Records as records
@@ -28,10 +27,6 @@ use Rattle.answer.proofs.Walks.{walk-each, walk-carries, through-judge,
 use Rattle.answer.proofs.Stages.{Staged, staged, ends-with}
 use Rattle.answer.proofs.Files.{ends}
 use Rattle.answer.proofs.Outcomes.{given-head-kept, given-entry-kept}
-
--- A set of known taxa fits 8 bytes.
-set-fits : {n x : ℕ} → n ≤ 64 → x ⊆ all n → x < 256 ^ 8
-set-fits l s = omega (arith, ⊆-≤ s, all-fits 64 l)
 
 -- A record that a step takes is met in a file as it is met as given.
 alike : (file : List ℕ) (kind : ℕ) (here : Cursor) (go : Cursor → Passed) {at : ℕ} → Payload at (record { at = here .at + 4 + payload kind }) ≡ step file (here .at) (recordOf kind)

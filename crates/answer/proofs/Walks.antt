@@ -145,7 +145,7 @@ module _ (file : List ℕ) where
   unfolding taxaIn
   taxa-there groups i l = entry (λ i. numberAt 8 file (20 + 16 * i)) groups i l
 
-  length-taxa : (k : ℕ) → length (taxaIn file k) ≡ k
+  pub length-taxa : (k : ℕ) → length (taxaIn file k) ≡ k
   unfolding taxaIn
   length-taxa k = length-entries (λ i. numberAt 8 file (20 + 16 * i)) k
 

@@ -1,13 +1,13 @@
 -- The file of a legal matrix is taken (`file-taken`) and holds that matrix (`file-holds`).
 use mathlib.Core.Path.{_≡_, refl, sym, ap, _∙_}
 use mathlib.Core.List.{List, [], _∷_, _++_, append-assoc, append-nil}
-use Prim.Native.Nat.{ℕ, suc, _+_, _*_, _^_, _≤_, _<_}
+use Prim.Native.Nat.{ℕ, suc, _+_, _*_, _≤_, _<_}
 use native.Mathlib.Nat.{add-zero, mul-zero}
 use native.Mathlib.Omega.{arith}
 use lib.Dec.{lit<}
 use lib.ListN.{length, drop, length-append, length-drop}
 use Rattle.taxa.specs.Sets.{_⊆_, all}
-use Rattle.taxa.proofs.Members.{⊆-≤, all-fits, within-⊆}
+use Rattle.taxa.proofs.Members.{set-fits, within-⊆}
 use Rattle.record.specs.Bytes.{numberAt, bytesOf}
 use Rattle.record.specs.Records as records
 use Rattle.record.specs.Records.{recordOf}
@@ -20,10 +20,6 @@ use Rattle.matrix.specs.declared.Checked.the-variants.{Taken}
 use Rattle.matrix.specs.Matrix.{Matrix, Legal, LegalColumn, LegalColumns, none, one, headBytes, columnBytes, columnsBytes, endBytes, fileOf, columnAt, columnsFrom, matrixOf}
 use Rattle.matrix.specs.Check.{headPassed, columnPassed, columnsPassed, endPassed, checked}
 use Rattle.matrix.proofs.Judging.{column-taken, head-taken, all-passed}
-
--- A set of known taxa fits 8 bytes.
-set-fits : {n x : ℕ} → n ≤ 64 → x ⊆ all n → x < 256 ^ 8
-set-fits l s = omega (arith, ⊆-≤ s, all-fits 64 l)
 
 abbrev cursor : ℕ → Cursor
 cursor at = record { at = at }

@@ -17,7 +17,8 @@ use Rattle.matrix.specs.Check.{checked}
 use Rattle.answer.specs.declared.Answer.{Answer}
 use Rattle.answer.specs.Content.{contentIn, groupsIn, taxaIn, padded, answerOf}
 use Rattle.answer.specs.Reading.{fileTests}
-use Rattle.answer.proofs.Runs.{length-entries, at-front}
+use Rattle.answer.proofs.Runs.{at-front}
+use Rattle.answer.proofs.Walks.{length-taxa}
 use Rattle.score.specs.declared.Raises.{Raises}
 use Rattle.score.specs.declared.Lowers.{Lowers}
 use Rattle.score.specs.declared.Scored.{Scored}
@@ -32,10 +33,6 @@ nearest-same : (c : Column) (f g : ℕ → ℕ) (k best : ℕ) → ((i : ℕ) �
 unfolding nearestIn
 nearest-same c f g zero best e = refl
 nearest-same c f g (suc k) best e = rw (nearest-same c f g k best (λ i l. e i (omega arith)), e k (omega arith))
-
-length-taxa : (file : List ℕ) (k : ℕ) → length (taxaIn file k) ≡ k
-unfolding taxaIn
-length-taxa file k = length-entries _ k
 
 padded-node : (file : List ℕ) (n k : ℕ) → nodeFor n (padded (taxaIn file k)) k ≡ nodeFor n (taxaIn file k) k
 unfolding nodeFor

@@ -4,15 +4,14 @@ use mathlib.Core.Path.{_≡_, sym, ap, ap₂, _∙_, subst}
 use mathlib.Core.List.{List, _++_}
 use Prim.Native.Nat.{ℕ, _^_, _<_}
 use native.Mathlib.Omega.{arith}
-use lib.IntN.{ℤ, pos}
-use lib.ListN.{length, drop, replicate}
+use lib.IntN.{ℤ}
+use lib.ListN.{length, drop}
 use Rattle.taxa.specs.Sets.{_⊆_, _∖_}
 use Rattle.taxa.proofs.Members.{low-bound}
 use Rattle.method.specs.Split.{Column, side, parted, divisionCost, flipped, parts}
 use Rattle.method.proofs.Listing.{side-rule}
 use Rattle.method.proofs.Width.{cost-width, side-width, parted-width}
 use Rattle.search.specs.Search.{colsOf, Given, Divided}
-use Rattle.search.specs.Workspace.{cleared, Kept}
 use Rattle.split.specs.Columns.{Parallel}
 use Rattle.split.specs.Parts.{Listed}
 use Rattle.split.specs.Groups.{IsSplit, HandsOn}
@@ -50,7 +49,3 @@ module _ {ws os zs os′ zs′ : List ℕ} {S cost A t : ℕ} (s : IsSplit (leng
         many = l .many ws ∙ ap length remain;
         parts = l .list ws ∙ ap (λ (Ps : List ℕ). Ps ++ drop number list) remain;
       }
-
--- Only the first k numbers have changed, so cleared they are as if nothing had.
-pub cleared-again : (k : ℕ) {ws ws′ : List ℤ} → Kept k ws ws′ → cleared k ws′ ≡ cleared k ws
-cleared-again k h = ap (_++_ (replicate k (pos 0))) (h .rest)

@@ -2,7 +2,7 @@
 -- (`kept-next`), file order as two loops meet it (`ordered-next`), and the flip list one column further (`list-next`).
 use mathlib.Core.Path.{_≡_, refl, ap, _∙_, subst}
 use mathlib.Core.Bool.{Bool, true, false, cond}
-use mathlib.Core.List.{List, [], _∷_, _++_, map, map-append}
+use mathlib.Core.List.{List, [], _∷_, _++_, map, map-append, List·Memᴰ, List·Memᴰ·head, List·Memᴰ·tail}
 use Prim.Native.Nat.{ℕ, zero, suc, _+_, _≤_, _<_}
 use native.Mathlib.Numerals.{add-one}
 use native.Mathlib.Decide.{le-ind}
@@ -13,7 +13,15 @@ use Rattle.taxa.specs.Sum.{sum}
 use Rattle.taxa.specs.Sets.{_∩_}
 use Rattle.method.specs.Split.{Column}
 use Rattle.method.specs.Tree.{Group, Flips, kept, ordered, flipsOf, flipList, total}
+use Rattle.method.proofs.Walks.{total-++}
 use Rattle.tree.specs.Lists.{groupsOf, startsAt, flipsIn, FlipRoom, unflipped}
+
+-- ---- elements by their number
+
+pub getD-in : {A : Type 0} (d : A) (l : List A) (i : ℕ) → i < length l → List·Memᴰ (getD l i d) l
+getD-in d [] i b = absurd (omega arith)
+getD-in d (x ∷ xs) zero b = List·Memᴰ·head refl
+getD-in d (x ∷ xs) (suc i) b = List·Memᴰ·tail (getD-in d xs i (omega arith))
 
 -- ---- groups
 
@@ -49,15 +57,10 @@ unfolding groupsOf
 costs-of ts cs zero l = refl
 costs-of ts cs (suc k) l = take-suc cs k 0 l ∙ rw (costs-of ts cs k (omega arith), map-append)
 
-total-++ : (gs : List Group) (g : Group) → total (gs ++ (g ∷ [])) ≡ total gs + g .cost
-unfolding total
-total-++ [] g = omega arith
-total-++ (x ∷ gs) g = omega (arith, total-++ gs g)
-
 pub total-of : (ts cs : List ℕ) (k : ℕ) → total (groupsOf ts cs k) ≡ sum k (λ i. getD cs i 0)
 unfolding groupsOf sum total
 total-of ts cs zero = refl
-total-of ts cs (suc k) = total-++ (groupsOf ts cs k) _ ∙ ap (λ (n : ℕ). n + getD cs k 0) (total-of ts cs k)
+total-of ts cs (suc k) = omega (arith, total-++ (groupsOf ts cs k) (record { taxa = getD ts k 0; cost = getD cs k 0 } ∷ []), total-of ts cs k)
 
 -- ---- what a test keeps
 

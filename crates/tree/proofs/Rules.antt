@@ -1,7 +1,7 @@
 -- The answer to a sound matrix keeps the rules of an answer file, so writing it is never refused but for room (`answer-passes`, `answer-legal`).
 use mathlib.Core.Path.{_≡_, refl, sym, ap, _∙_}
 use mathlib.Core.Bool.{Bool, true, false, _||_, _&&_, cond}
-use mathlib.Core.List.{List, [], _∷_, map, List·Memᴰ, List·Memᴰ·head, List·Memᴰ·tail}
+use mathlib.Core.List.{List, [], _∷_, map, List·Memᴰ}
 use mathlib.Core.Logic.{_≢_, _⊎_, inl, inr}
 use Prim.Native.Nat.{ℕ, zero, suc, _+_, _*_, _≤_, _<_}
 use native.Mathlib.Nat.{mul-suc}
@@ -22,20 +22,15 @@ use Rattle.answer.specs.Content.{Content, lengthOf}
 use Rattle.answer.specs.Tests.{judge, asGiven, walk, headTest, groupTest, entryTest, flipsTest, endTest, tests, Legal}
 use Rattle.answer.specs.Rules.{counted, headFault, follows, placed, compatible, compatibleAll, groupFault, floorOf, kept, entryFault, totalFault}
 use Rattle.tree.specs.Build.{contentWith, contentFor, roomFor}
-use Rattle.tree.proofs.Lists.{list-few}
+use Rattle.tree.proofs.Lists.{getD-in, list-few}
 
 -- ---- elements by their number
 
 module _ {A : Type 0} (d : A) where
-  getD-in : (l : List A) (i : ℕ) → i < length l → List·Memᴰ (getD l i d) l
-  getD-in [] i b = absurd (omega arith)
-  getD-in (x ∷ xs) zero b = List·Memᴰ·head refl
-  getD-in (x ∷ xs) (suc i) b = List·Memᴰ·tail (getD-in xs i (omega arith))
-
   -- An element and the next.
   line-next : {R : A → A → Type 0} {l : List A} → Line R l → (i : ℕ) → suc i < length l → R (getD l i d) (getD l (suc i) d)
   line-next end i b = absurd (omega arith)
-  line-next (and {x} {xs} h t) zero b = h (getD xs 0 d) (getD-in xs 0 (omega arith))
+  line-next (and {x} {xs} h t) zero b = h (getD xs 0 d) (getD-in d xs 0 (omega arith))
   line-next (and h t) (suc i) b = line-next t i (omega arith)
 
 none-group : Group

@@ -1,8 +1,8 @@
 -- The walk over the parts of a group, as its loop meets it: what is left to walk, from the columns as they are now, comes to what all comes to
 -- (`Going`); and a group, from its split and the walk over its parts (`one-taxon`, `whole-group`).
 use mathlib.Core.Path.{_≡_, refl, sym, ap, _∙_, subst}
-use mathlib.Core.List.{List, [], _∷_, _++_, append-assoc, append-nil, List·Memᴰ, List·Memᴰ·head, List·Memᴰ·tail}
-use Prim.Native.Nat.{ℕ, zero, suc, _+_, _-_, _*_, _^_, _≤_, _<_}
+use mathlib.Core.List.{List, [], _∷_, _++_, append-assoc, append-nil}
+use Prim.Native.Nat.{ℕ, _+_, _-_, _*_, _^_, _≤_, _<_}
 use native.Mathlib.Numerals.{add-one}
 use native.Mathlib.Omega.{arith}
 use lib.IntN.{ℤ}
@@ -20,6 +20,7 @@ use Rattle.method.proofs.Splits.{split-parts, part-in}
 use Rattle.search.specs.Search.{colsOf}
 use Rattle.split.specs.Columns.{Parallel}
 use Rattle.tree.specs.Grow.{Ready, Grown, AllSmall}
+use Rattle.tree.proofs.Lists.{getD-in}
 
 module _ (g : (ℕ → Column) → ℕ → Walk) (Ps : List ℕ) where
   -- One set walked, and those after it.
@@ -92,11 +93,6 @@ whole-group {ws} {before = before} {S = S} cols mid Ps fits two e ps w =
 
 -- ---- the parts are small
 
-getD-in : (l : List ℕ) (i : ℕ) → i < length l → List·Memᴰ (getD l i 0) l
-getD-in [] i l = absurd (omega arith)
-getD-in (x ∷ xs) zero l = List·Memᴰ·head refl
-getD-in (x ∷ xs) (suc i) l = List·Memᴰ·tail (getD-in xs i (omega arith))
-
 -- Where a list has room for twice the group's taxa, there is room after the parts for twice those of any of them: there are two parts or more.
 pub parts-small : (m n : ℕ) (cols : ℕ → Column) (S room : ℕ) → n ≤ 64 → S < 2 ^ n → 1 < count 64 S → 2 * count 64 S ≤ room + length (splitParts 64 m cols S)
     → AllSmall (splitParts 64 m cols S) n (count 64 S) room
@@ -104,16 +100,16 @@ parts-small m n cols S room l fits two enough =
     let wide : S < 2 ^ 64 = omega (arith, pow-mono l) in
     let Ps = splitParts 64 m cols S in
     record {
-      short = λ i b. omega (arith, ⊆-≤ (inside-R 64 m (after 64 m cols S) S (split-parts 64 m cols S wide two) (getD-in Ps i b)));
-      small = λ i b. part-in 64 m cols S wide two (getD-in Ps i b) .2;
-      fits = λ i b. omega (arith, split-beside 64 m cols S wide two (getD-in Ps i b), split-two 64 m cols S wide two);
+      short = λ i b. omega (arith, ⊆-≤ (inside-R 64 m (after 64 m cols S) S (split-parts 64 m cols S wide two) (getD-in 0 Ps i b)));
+      small = λ i b. part-in 64 m cols S wide two (getD-in 0 Ps i b) .2;
+      fits = λ i b. omega (arith, split-beside 64 m cols S wide two (getD-in 0 Ps i b), split-two 64 m cols S wide two);
     }
 
--- A part of which the list is not written over is read off it.
+-- A part that the list still holds is read off it.
 pub still-listed : (k : ℕ) (list old : List ℕ) (i : ℕ) → take k list ≡ take k old → i < k → getD (take k old) i 0 ≡ getD list i 0
 still-listed k list old i e l = ap (λ (ps : List ℕ). getD ps i 0) (sym e) ∙ getD-take k list i 0 l
 
--- What stands after the parts.
+-- How much stands after the parts.
 pub rest-length : (k : ℕ) (list : List ℕ) → length (take (length list - k) (drop k list)) ≡ length list - k
 rest-length k list = length-take-le (length list - k) (drop k list) (omega (arith, length-drop k list))
 

@@ -1,7 +1,8 @@
 -- `group::divide` meets its contract: what the search finds is the method's split, and the workspace is cleared.
 use borrow.Author.Needs.{needs}
 use mathlib.Core.Path.{_∙_}
-use Rattle.split.proofs.Dividing.{found-split, cleared-again}
+use Rattle.search.proofs.Workspace.{cleared-again}
+use Rattle.split.proofs.Dividing.{found-split}
 use Rattle.split.proofs.group.divide.Statement.{statement}
 use Rattle.split.proofs.group.divide.Tie as tie
 
@@ -20,7 +21,7 @@ same-length c = search needs
 returns : tie.Need-returns
 returns c =
     let found = c .before .before .before .before .divide .ensures in
-    (found-split (c .before .before .before .before .before .before .before .before .before .pre .0) (found .0), c .before .clear .ensures ∙ cleared-again _ (found .1))
+    (found-split (c .before .before .before .before .before .before .before .before .before .pre .0) (found .0), c .before .clear .ensures ∙ cleared-again (found .1))
 
 pub divide-spec : {M : Type 1} → statement M
 divide-spec = tie.close (tie.spec divide-requires mul-clear clear-requires same-length returns)
