@@ -8,7 +8,7 @@ use lib.Seq.{getD-take}
 use Rattle.taxa.proofs.Sums.{sum-≡}
 use Rattle.record.specs.declared.Cursor.{Cursor}
 use Rattle.answer.specs.declared.Answer.{Answer}
-use Rattle.answer.specs.Content.{run, headBytes, groupOf, flipsOf, endBytes, fileOf, contentOf}
+use Rattle.answer.specs.Content.{run, headBytes, groupRecord, flipsRecord, endBytes, fileOf, contentOf}
 use Rattle.answer.specs.Rules.{sumOf}
 use Rattle.answer.specs.Tests.{Meet, walk, groupTest, flipsTest}
 use Rattle.answer.proofs.Rows.{group-same, floor-same}
@@ -32,15 +32,15 @@ flips-cut meet n m k columns raised lowered from =
 pub sum-cut : (costs : List ℕ) (k : ℕ) → sumOf costs k ≡ sumOf (take k costs) k
 sum-cut costs k = sum-≡ k (λ i l. cut k costs i l)
 
-pub groups-file-cut : (taxa costs : List ℕ) (k : ℕ) → run (groupOf taxa costs) k ≡ run (groupOf (take k taxa) (take k costs)) k
-groups-file-cut taxa costs k = run-same (groupOf taxa costs) (groupOf (take k taxa) (take k costs)) k (λ i l. rw (cut k taxa i l, cut k costs i l))
+pub groups-file-cut : (taxa costs : List ℕ) (k : ℕ) → run (groupRecord taxa costs) k ≡ run (groupRecord (take k taxa) (take k costs)) k
+groups-file-cut taxa costs k = run-same (groupRecord taxa costs) (groupRecord (take k taxa) (take k costs)) k (λ i l. rw (cut k taxa i l, cut k costs i l))
 
-pub flips-file-cut : (columns raised lowered : List ℕ) (k : ℕ) → run (flipsOf columns raised lowered) k ≡ run (flipsOf (take k columns) (take k raised) (take k lowered)) k
+pub flips-file-cut : (columns raised lowered : List ℕ) (k : ℕ) → run (flipsRecord columns raised lowered) k ≡ run (flipsRecord (take k columns) (take k raised) (take k lowered)) k
 flips-file-cut columns raised lowered k =
-    run-same (flipsOf columns raised lowered) (flipsOf (take k columns) (take k raised) (take k lowered)) k (λ j l. rw (cut k columns j l, cut k raised j l, cut k lowered j l))
+    run-same (flipsRecord columns raised lowered) (flipsRecord (take k columns) (take k raised) (take k lowered)) k (λ j l. rw (cut k columns j l, cut k raised j l, cut k lowered j l))
 
 -- The file of what is given, from the places as they are.
 pub file-cut : (a : Answer) (columns raised lowered : List ℕ) → fileOf (contentOf a columns raised lowered)
-    ≡ headBytes (a .n) (a .m) (a .groups) (a .flips) (a .total) ++ run (groupOf (a .taxa) (a .costs)) (a .groups) ++ run (flipsOf columns raised lowered) (a .flips) ++ endBytes
+    ≡ headBytes (a .n) (a .m) (a .groups) (a .flips) (a .total) ++ run (groupRecord (a .taxa) (a .costs)) (a .groups) ++ run (flipsRecord columns raised lowered) (a .flips) ++ endBytes
 unfolding fileOf
 file-cut a columns raised lowered = rw (← groups-file-cut (a .taxa) (a .costs) (a .groups), ← flips-file-cut columns raised lowered (a .flips))

@@ -16,7 +16,7 @@ use Rattle.record.specs.declared.Passed.{Passed}
 use Rattle.record.specs.declared.Passed.the-variants.{At}
 use Rattle.record.proofs.Numbers.{length-bytes, field-read}
 use Rattle.record.proofs.Steps.{content-stands, record-taken, none-after}
-use Rattle.answer.specs.Content.{Content, run, headBytes, groupBytes, flipsBytes, endBytes, groupOf, flipsOf, fileOf, lengthOf, contentIn, groupsIn, flipsIn, taxaIn, costsIn, columnsFrom, raisedFrom, loweredFrom, flipsStart}
+use Rattle.answer.specs.Content.{Content, run, headBytes, groupBytes, flipsBytes, endBytes, groupRecord, flipsRecord, fileOf, lengthOf, contentIn, groupCount, flipCount, taxaIn, costsIn, columnsFrom, raisedFrom, loweredFrom, flipsStart}
 use Rattle.answer.specs.Rules.{floorOf, totalFault, sumOf}
 use Rattle.answer.specs.Tests.{inFile, asGiven, walk, headTest, groupTest, entryTest, flipsTest, endTest, tests, Legal}
 use Rattle.answer.specs.Reading.{fileTests}
@@ -65,10 +65,10 @@ module _ {c : Content} (legal : Legal c) where
   -- ---- the head
 
   abbrev flips-part : List ℕ
-  flips-part = run (flipsOf (c .columns) (c .raised) (c .lowered)) (c .flips) ++ endBytes
+  flips-part = run (flipsRecord (c .columns) (c .raised) (c .lowered)) (c .flips) ++ endBytes
 
   abbrev after-head : List ℕ
-  after-head = run (groupOf (c .taxa) (c .costs)) (c .groups) ++ flips-part
+  after-head = run (groupRecord (c .taxa) (c .costs)) (c .groups) ++ flips-part
 
   abbrev head-payload : List ℕ
   head-payload = bytesOf 2 (c .n) ++ bytesOf 2 (c .m) ++ bytesOf 2 (c .groups) ++ bytesOf 2 (c .flips) ++ bytesOf 4 (c .total)
@@ -77,7 +77,7 @@ module _ {c : Content} (legal : Legal c) where
   unfolding fileOf headBytes
   head-stands = simp append-assoc
 
-  numbers : (numberAt 2 file 4 ≡ c .n) × (numberAt 2 file 6 ≡ c .m) × (groupsIn file ≡ c .groups) × (flipsIn file ≡ c .flips) × (numberAt 4 file 12 ≡ c .total) × (drop 16 file ≡ after-head)
+  numbers : (numberAt 2 file 4 ≡ c .n) × (numberAt 2 file 6 ≡ c .m) × (groupCount file ≡ c .groups) × (flipCount file ≡ c .flips) × (numberAt 4 file 12 ≡ c .total) × (drop 16 file ≡ after-head)
   numbers =
       let k = head-kept in
       let start = simp append-assoc at (content-stands file head-payload after-head 0 (recordOf records.answerHead) head-stands) in
@@ -96,8 +96,8 @@ module _ {c : Content} (legal : Legal c) where
 
   -- ---- the groups
 
-  group-at : (i : ℕ) → i < c .groups → (r : List ℕ) × (drop (16 + 16 * i) file ≡ groupOf (c .taxa) (c .costs) i ++ r)
-  group-at = run-holds file 16 16 (groupOf (c .taxa) (c .costs)) (λ i. length-group _ _) (c .groups) flips-part (numbers .5)
+  group-at : (i : ℕ) → i < c .groups → (r : List ℕ) × (drop (16 + 16 * i) file ≡ groupRecord (c .taxa) (c .costs) i ++ r)
+  group-at = run-holds file 16 16 (groupRecord (c .taxa) (c .costs)) (λ i. length-group _ _) (c .groups) flips-part (numbers .5)
 
   module _ (i : ℕ) (l : i < c .groups) where
     abbrev group-payload : List ℕ
@@ -132,10 +132,10 @@ module _ {c : Content} (legal : Legal c) where
   flips-at = flipsStart (c .groups)
 
   flips-stand : drop flips-at file ≡ flips-part
-  flips-stand = run-past file 16 16 (groupOf (c .taxa) (c .costs)) (λ i. length-group _ _) (c .groups) flips-part (numbers .5)
+  flips-stand = run-past file 16 16 (groupRecord (c .taxa) (c .costs)) (λ i. length-group _ _) (c .groups) flips-part (numbers .5)
 
-  entry-at : (j : ℕ) → j < c .flips → (r : List ℕ) × (drop (flips-at + 22 * j) file ≡ flipsOf (c .columns) (c .raised) (c .lowered) j ++ r)
-  entry-at = run-holds file flips-at 22 (flipsOf (c .columns) (c .raised) (c .lowered)) (λ j. length-flips _ _ _) (c .flips) endBytes flips-stand
+  entry-at : (j : ℕ) → j < c .flips → (r : List ℕ) × (drop (flips-at + 22 * j) file ≡ flipsRecord (c .columns) (c .raised) (c .lowered) j ++ r)
+  entry-at = run-holds file flips-at 22 (flipsRecord (c .columns) (c .raised) (c .lowered)) (λ j. length-flips _ _ _) (c .flips) endBytes flips-stand
 
   module _ (j : ℕ) (l : j < c .flips) where
     abbrev entry-payload : List ℕ
@@ -181,7 +181,7 @@ module _ {c : Content} (legal : Legal c) where
   end-alike : endTest asGiven (c .total) (c .costs) (c .groups) (stages .end) ≡ endTest (inFile file) (c .total) (c .costs) (c .groups) (stages .end)
   unfolding endTest endBytes
   end-alike =
-      let e = run-past file flips-at 22 (flipsOf (c .columns) (c .raised) (c .lowered)) (λ j. length-flips _ _ _) (c .flips) endBytes flips-stand in
+      let e = run-past file flips-at 22 (flipsRecord (c .columns) (c .raised) (c .lowered)) (λ j. length-flips _ _ _) (c .flips) endBytes flips-stand in
       alike file records.answerEnd (stages .end) _
       (record-taken file [] [] (stages .end .at) (recordOf records.answerEnd) (rw end-at (e ∙ sym (append-nil endBytes))) (lit< tt) (lit< tt) refl)
 

@@ -11,7 +11,7 @@ use Rattle.record.specs.declared.Cursor.{Cursor}
 use Rattle.record.specs.declared.Passed.the-variants.{At}
 use Rattle.record.proofs.Numbers.{at-lt}
 use Rattle.answer.specs.declared.Answer.{Answer}
-use Rattle.answer.specs.Content.{Content, contentIn, contentOf, lengthOf, groupsIn, flipsIn, taxaIn, costsIn, columnsFrom, raisedFrom, loweredFrom}
+use Rattle.answer.specs.Content.{Content, contentIn, contentOf, lengthOf, groupCount, flipCount, taxaIn, costsIn, columnsFrom, raisedFrom, loweredFrom}
 use Rattle.answer.specs.Rules.{headFault, totalFault}
 use Rattle.answer.specs.Tests.{judge, inFile, asGiven, walk, headTest, groupTest, entryTest, flipsTest, endTest, tests, Legal}
 use Rattle.answer.specs.Reading.{listed, fileTests}
@@ -75,7 +75,7 @@ module _ (file : List ℕ) {next : Cursor} (e : At next ≡ fileTests file) wher
   abbrev c : Content
   c = contentIn file
 
-  abbrev read : Staged (inFile file) c (flipsIn file) (read-through file e .last)
+  abbrev read : Staged (inFile file) c (flipCount file) (read-through file e .last)
   read = read-through file e .stages
 
   head-given : At (read .first) ≡ headTest asGiven (c .n) (c .m) (c .groups) (c .flips) (c .flips)
@@ -116,11 +116,11 @@ module _ (file : List ℕ) {next : Cursor} (e : At next ≡ fileTests file) wher
   unfolding taxaIn costsIn columnsFrom raisedFrom loweredFrom
   taken-legal f =
       record {
-        taxa-sized = length-entries _ (groupsIn file);
-        costs-sized = length-entries _ (groupsIn file);
-        columns-sized = length-entries _ (flipsIn file);
-        raised-sized = length-entries _ (flipsIn file);
-        lowered-sized = length-entries _ (flipsIn file);
+        taxa-sized = length-entries _ (groupCount file);
+        costs-sized = length-entries _ (groupCount file);
+        columns-sized = length-entries _ (flipCount file);
+        raised-sized = length-entries _ (flipCount file);
+        lowered-sized = length-entries _ (flipCount file);
         total-fits = at-lt 4 12 f;
         passes = taken-passes;
       }

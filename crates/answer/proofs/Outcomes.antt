@@ -15,7 +15,7 @@ use Rattle.answer.specs.declared.Reading.{Reading}
 use Rattle.answer.specs.declared.Verdict.the-variants as verdict
 use Rattle.answer.specs.declared.Answer.{Answer}
 use Rattle.answer.specs.declared.Written.the-variants as written
-use Rattle.answer.specs.Content.{Content, contentIn, contentOf, answerOf, groupsIn, flipsIn, flipsStart, fileOf, lengthOf}
+use Rattle.answer.specs.Content.{Content, contentIn, contentOf, answerOf, groupCount, flipCount, flipsStart, fileOf, lengthOf}
 use Rattle.answer.specs.Rules.{floorOf}
 use Rattle.answer.specs.Tests.{judge, asGiven, flipsTest, tests}
 use Rattle.answer.specs.Reading.{listed, empty, fileTests, readTests, reading, Reads}
@@ -40,12 +40,12 @@ module _ (file columns raised lowered : List ℕ) where
   unfolding readTests
   file-refused s e = rw s (refuses (rw (← e)))
 
-  pub no-room : {here : Cursor} {r : Reading} → r ≡ refusedBy (refused 10 0) → At here ≡ fileTests file → room < flipsIn file → Reads file columns raised lowered r columns raised lowered
+  pub no-room : {here : Cursor} {r : Reading} → r ≡ refusedBy (refused 10 0) → At here ≡ fileTests file → room < flipCount file → Reads file columns raised lowered r columns raised lowered
   unfolding readTests judge
   no-room s e l = rw s (refuses (rw (← e, lt-ltb _ _ l)))
 
   pub taken : {here : Cursor} {r : Reading} {columns′ raised′ lowered′ : List ℕ} → r ≡ record { verdict = verdict.Taken; answer = answerOf (contentIn file) }
-      → At here ≡ fileTests file → flipsIn file ≤ room
+      → At here ≡ fileTests file → flipCount file ≤ room
       → columns′ ≡ over (contentIn file .columns) 0 columns → raised′ ≡ over (contentIn file .raised) 0 raised → lowered′ ≡ over (contentIn file .lowered) 0 lowered
       → Reads file columns raised lowered r columns′ raised′ lowered′
   unfolding reading readTests judge
@@ -53,10 +53,10 @@ module _ (file columns raised lowered : List ℕ) where
 
 -- Where the parts of a file that passes lie.
 pub record Laid (file : List ℕ) : Type 0 where
-  pub head-kept : HeadKept (numberAt 2 file 4) (numberAt 2 file 6) (groupsIn file) (flipsIn file) (flipsIn file)
+  pub head-kept : HeadKept (numberAt 2 file 4) (numberAt 2 file 6) (groupCount file) (flipCount file) (flipCount file)
   pub first-at : 16 ≤ length file
-  pub flips-at : flipsStart (groupsIn file) ≤ length file
-  pub end-at : flipsStart (groupsIn file) + 22 * flipsIn file ≤ length file
+  pub flips-at : flipsStart (groupCount file) ≤ length file
+  pub end-at : flipsStart (groupCount file) + 22 * flipCount file ≤ length file
 
 pub laid : (file : List ℕ) {here : Cursor} → At here ≡ fileTests file → Laid file
 laid file e =

@@ -9,7 +9,7 @@ use Rattle.record.specs.Records as records
 use Rattle.record.specs.Records.{recordOf, openingOf, recordBytes}
 use Rattle.record.specs.declared.Record.{Record}
 use Rattle.record.proofs.Numbers.{length-bytes}
-use Rattle.answer.specs.Content.{Content, run, headBytes, groupBytes, flipsBytes, endBytes, groupOf, flipsOf, fileOf, lengthOf}
+use Rattle.answer.specs.Content.{Content, run, headBytes, groupBytes, flipsBytes, endBytes, groupRecord, flipsRecord, fileOf, lengthOf}
 use Rattle.answer.proofs.Runs.{length-run}
 
 pub length-opening : (it : Record) → length (openingOf it) ≡ 4
@@ -45,11 +45,11 @@ length-flips column raised lowered = rw (flips-flat column raised lowered) (simp
 pub length-end : length endBytes ≡ 4
 length-end = rw end-flat (length-opening (recordOf records.answerEnd))
 
-pub length-groups : (taxa costs : List ℕ) (k : ℕ) → length (run (groupOf taxa costs) k) ≡ 16 * k
-length-groups taxa costs = length-run (groupOf taxa costs) 16 (λ i. length-group _ _)
+pub length-groups : (taxa costs : List ℕ) (k : ℕ) → length (run (groupRecord taxa costs) k) ≡ 16 * k
+length-groups taxa costs = length-run (groupRecord taxa costs) 16 (λ i. length-group _ _)
 
-pub length-all-flips : (columns raised lowered : List ℕ) (k : ℕ) → length (run (flipsOf columns raised lowered) k) ≡ 22 * k
-length-all-flips columns raised lowered = length-run (flipsOf columns raised lowered) 22 (λ j. length-flips _ _ _)
+pub length-all-flips : (columns raised lowered : List ℕ) (k : ℕ) → length (run (flipsRecord columns raised lowered) k) ≡ 22 * k
+length-all-flips columns raised lowered = length-run (flipsRecord columns raised lowered) 22 (λ j. length-flips _ _ _)
 
 -- "An answer's length": 20 + 16 for each group + 22 for each flipped column.
 pub length-file : (c : Content) → length (fileOf c) ≡ lengthOf c

@@ -19,7 +19,7 @@ use Rattle.answer.specs.declared.Reading.{Reading}
 use Rattle.answer.specs.declared.Verdict.the-variants as verdict
 use Rattle.answer.specs.declared.Written.{Written}
 use Rattle.answer.specs.declared.Written.the-variants as written
-use Rattle.answer.specs.Content.{Content, contentIn, contentOf, answerOf, fileOf, lengthOf, flipsIn}
+use Rattle.answer.specs.Content.{Content, contentIn, contentOf, answerOf, fileOf, lengthOf, flipCount}
 use Rattle.answer.specs.Tests.{judge, asGiven, tests, Legal}
 use Rattle.answer.specs.Reading.{listed, fileTests, readTests, reading, answered, Reads}
 use Rattle.answer.specs.Writing.{writing, writeTests, ended, put, Writes}
@@ -38,7 +38,7 @@ pub reads-back : {c : Content} → Legal c → (room : ℕ) → c .flips ≤ roo
 unfolding reading readTests judge
 reads-back {c} legal room l =
     let holds = file-holds legal in
-    let few : flipsIn (fileOf c) ≤ room = rw (ap (λ (x : Content). x .flips) holds) l in
+    let few : flipCount (fileOf c) ≤ room = rw (ap (λ (x : Content). x .flips) holds) l in
     rw (← file-taken legal, le-ltb _ _ few) (ap (λ (x : Content). record { verdict = verdict.Taken; answer = answerOf x }) holds)
 
 -- ---- reading what was written
@@ -89,7 +89,7 @@ content-back {c} legal columns raised lowered =
 record Left (file columns raised lowered : List ℕ) (r : Reading) (columns′ raised′ lowered′ : List ℕ) : Type 0 where
   next : Cursor
   passed : At next ≡ fileTests file
-  roomy : flipsIn file ≤ listed columns raised lowered
+  roomy : flipCount file ≤ listed columns raised lowered
   answer-is : r .answer ≡ answerOf (contentIn file)
   columns-are : columns′ ≡ over (contentIn file .columns) 0 columns
   raised-are : raised′ ≡ over (contentIn file .raised) 0 raised
@@ -102,11 +102,11 @@ left {file} {columns} {raised} {lowered} {r} reads t =
     let room = listed columns raised lowered in
     let (here, p) = took (contentIn file) (readTests file room) (sym (ap (λ (x : Reading). x .verdict) (reads .answers)) ∙ t) in
     let (last, passed, j) = through (fileTests file) p in
-    let (none, same) = through-judge (cond (ltb room (flipsIn file)) 10 0) 0 last j in
+    let (none, same) = through-judge (cond (ltb room (flipCount file)) 10 0) 0 last j in
     record {
       next = last;
       passed = passed;
-      roomy = ltb-false _ _ (unless (ltb room (flipsIn file)) 10 0 (lit< tt) none .0);
+      roomy = ltb-false _ _ (unless (ltb room (flipCount file)) 10 0 (lit< tt) none .0);
       answer-is = ap (λ (x : Reading). x .answer) (reads .answers) ∙ rw (← p);
       columns-are = reads .columns-after ∙ rw t;
       raised-are = reads .raised-after ∙ rw t;
@@ -125,7 +125,7 @@ module _ {file columns raised lowered : List ℕ} {r : Reading} {columns′ rais
   pub read-content : contentOf (r .answer) columns′ raised′ lowered′ ≡ contentIn file
   read-content = rw (read .answer-is, read .columns-are, read .raised-are, read .lowered-are) (content-back legal columns raised lowered)
 
-  enough : flipsIn file ≤ listed columns′ raised′ lowered′
+  enough : flipCount file ≤ listed columns′ raised′ lowered′
   enough =
       let c = contentIn file in
       let room = read .roomy in

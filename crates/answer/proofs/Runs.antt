@@ -11,7 +11,7 @@ use borrow.Author.Count.{below-more}
 use Rattle.record.specs.Bytes.{over}
 use Rattle.record.proofs.Numbers.{past}
 use Rattle.record.proofs.Over.{onto, length-over}
-use Rattle.answer.specs.Content.{run, entries}
+use Rattle.answer.specs.Content.{run, numbersOf}
 
 pub run-more : (piece : ℕ → List ℕ) (k : ℕ) → run piece (k + 1) ≡ run piece k ++ piece k
 unfolding run
@@ -31,17 +31,17 @@ run-same a b zero e = refl
 run-same a b (suc k) e = rw (run-same a b k (λ i l. e i (omega arith)), e k (omega arith))
 
 module _ (g : ℕ → ℕ) where
-  pub length-entries : (k : ℕ) → length (entries g k) ≡ k
+  pub length-entries : (k : ℕ) → length (numbersOf g k) ≡ k
   length-entries k = length-run (λ i. g i ∷ []) 1 (λ i. refl) k ∙ omega arith
 
-  pub entry : (k i : ℕ) → i < k → getD (entries g k) i 0 ≡ g i
+  pub entry : (k i : ℕ) → i < k → getD (numbersOf g k) i 0 ≡ g i
   unfolding run
   entry zero i l = absurd (omega arith)
   entry (suc k) i l =
       below-more
-      (λ i. getD (entries g (suc k)) i 0 ≡ g i) k
-      (λ i l. List·getD-append (entries g k) (g k ∷ []) 0 i (omega (arith, length-entries k)) ∙ entry k i l)
-      (getD-at (entries g k) (g k) [] 0 k (length-entries k))
+      (λ i. getD (numbersOf g (suc k)) i 0 ≡ g i) k
+      (λ i l. List·getD-append (numbersOf g k) (g k ∷ []) 0 i (omega (arith, length-entries k)) ∙ entry k i l)
+      (getD-at (numbersOf g k) (g k) [] 0 k (length-entries k))
       i (omega arith)
 
 -- ---- in a file
@@ -72,9 +72,9 @@ module _ (file : List ℕ) (at w : ℕ) (piece : ℕ → List ℕ) where
     run-past k rest e = rw (length-run piece w sized k) at (past file (run piece k) rest at e)
 
 -- Entries that are those of a list are that list.
-pub entries-are : (g : ℕ → ℕ) (k : ℕ) (xs : List ℕ) → length xs ≡ k → ((i : ℕ) → i < k → g i ≡ getD xs i 0) → entries g k ≡ xs
+pub entries-are : (g : ℕ → ℕ) (k : ℕ) (xs : List ℕ) → length xs ≡ k → ((i : ℕ) → i < k → g i ≡ getD xs i 0) → numbersOf g k ≡ xs
 entries-are g k xs n e =
-    ext-getD 0 (entries g k) xs (length-entries g k ∙ sym n) (λ i l. let l′ : i < k = omega (arith, length-entries g k) in entry g k i l′ ∙ e i l′)
+    ext-getD 0 (numbersOf g k) xs (length-entries g k ∙ sym n) (λ i l. let l′ : i < k = omega (arith, length-entries g k) in entry g k i l′ ∙ e i l′)
 
 -- ---- over lent room
 
@@ -83,11 +83,11 @@ unfolding over
 one v a xs h = rw (set-split xs a v h, append-snoc (take a xs) v (drop (a + 1) xs), add-one a)
 
 -- One entry more, stored right after those before it.
-pub store-next : (g : ℕ → ℕ) (i : ℕ) {v : ℕ} (xs : List ℕ) → v ≡ g i → i < length xs → set (over (entries g i) 0 xs) i v ≡ over (entries g (i + 1)) 0 xs
+pub store-next : (g : ℕ → ℕ) (i : ℕ) {v : ℕ} (xs : List ℕ) → v ≡ g i → i < length xs → set (over (numbersOf g i) 0 xs) i v ≡ over (numbersOf g (i + 1)) 0 xs
 store-next g i {v} xs e l =
     let n = length-entries g i in
-    let room = length-over (entries g i) 0 xs (omega arith) in
-    one v i (over (entries g i) 0 xs) (omega arith) ∙ onto (entries g i) (v ∷ []) 0 i xs (omega arith) (omega arith) ∙ rw (run-more, e)
+    let room = length-over (numbersOf g i) 0 xs (omega arith) in
+    one v i (over (numbersOf g i) 0 xs) (omega arith) ∙ onto (numbersOf g i) (v ∷ []) 0 i xs (omega arith) (omega arith) ∙ rw (run-more, e)
 
 -- What was written is there.
 pub at-front : (r xs : List ℕ) (i : ℕ) → i < length r → getD (over r 0 xs) i 0 ≡ getD r i 0

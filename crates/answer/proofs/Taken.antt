@@ -12,7 +12,7 @@ use Rattle.record.specs.declared.Cursor.{Cursor}
 use Rattle.record.specs.declared.Passed.the-variants.{At}
 use Rattle.record.proofs.Numbers.{read-then}
 use Rattle.record.proofs.Steps.{Held, record-bytes}
-use Rattle.answer.specs.Content.{run, headBytes, groupBytes, flipsBytes, endBytes, groupOf, flipsOf, fileOf, lengthOf, contentIn, groupsIn, flipsIn, taxaIn, costsIn, columnsFrom, raisedFrom, loweredFrom, flipsStart}
+use Rattle.answer.specs.Content.{run, headBytes, groupBytes, flipsBytes, endBytes, groupRecord, flipsRecord, fileOf, lengthOf, contentIn, groupCount, flipCount, taxaIn, costsIn, columnsFrom, raisedFrom, loweredFrom, flipsStart}
 use Rattle.answer.specs.Rules.{totalFault}
 use Rattle.answer.specs.Tests.{inFile, walk, groupTest, flipsTest, endTest}
 use Rattle.answer.specs.Reading.{fileTests}
@@ -24,7 +24,7 @@ module _ {file : List ℕ} (f : File file) where
   -- ---- the records that were passed stand in the file
 
   head-stands : {next : Cursor} → Held file 0 (recordOf records.answerHead) 4 next
-      → file ≡ headBytes (numberAt 2 file 4) (numberAt 2 file 6) (groupsIn file) (flipsIn file) (numberAt 4 file 12) ++ drop 16 file
+      → file ≡ headBytes (numberAt 2 file 4) (numberAt 2 file 6) (groupCount file) (flipCount file) (numberAt 4 file 12) ++ drop 16 file
   unfolding headBytes
   head-stands h =
       let long : 16 ≤ length file = h .ends in
@@ -61,16 +61,16 @@ module _ {file : List ℕ} (f : File file) where
   -- ---- the groups and the flips
 
   abbrev g : ℕ
-  g = groupsIn file
+  g = groupCount file
 
   abbrev k : ℕ
-  k = flipsIn file
+  k = flipCount file
 
   groups-stand : (n : ℕ) (first : Cursor) {flips : Cursor} → first .at ≡ 16 → 16 ≤ length file → At flips ≡ walk (groupTest (inFile file) n (taxaIn file g)) g first
-      → drop 16 file ≡ run (groupOf (taxaIn file g) (costsIn file g)) g ++ drop (flipsStart g) file
+      → drop 16 file ≡ run (groupRecord (taxaIn file g) (costsIn file g)) g ++ drop (flipsStart g) file
   unfolding costsIn
   groups-stand n first at₁ long passed =
-      run-stands file 16 16 (groupOf (taxaIn file g) (costsIn file g)) g (λ i l.
+      run-stands file 16 16 (groupRecord (taxaIn file g) (costsIn file g)) g (λ i l.
       let it = walk-each (groupTest (inFile file) n (taxaIn file g)) first g passed i l in
       let at = groups-move file n i (taxaIn file g) first (it .led) (omega arith) .0 in
       let here : it .here .at ≡ 16 + 16 * i = omega arith in
@@ -81,10 +81,10 @@ module _ {file : List ℕ} (f : File file) where
 
   flips-all-stand : (n m : ℕ) (from : Cursor) {end : Cursor} (at : ℕ) → from .at ≡ at → at ≤ length file
       → At end ≡ walk (flipsTest (inFile file) n m (columnsFrom file at k) (raisedFrom file at k) (loweredFrom file at k)) k from
-      → drop at file ≡ run (flipsOf (columnsFrom file at k) (raisedFrom file at k) (loweredFrom file at k)) k ++ drop (at + 22 * k) file
+      → drop at file ≡ run (flipsRecord (columnsFrom file at k) (raisedFrom file at k) (loweredFrom file at k)) k ++ drop (at + 22 * k) file
   unfolding columnsFrom raisedFrom loweredFrom
   flips-all-stand n m from at at₁ long passed =
-      run-stands file at 22 (flipsOf (columnsFrom file at k) (raisedFrom file at k) (loweredFrom file at k)) k (λ j l.
+      run-stands file at 22 (flipsRecord (columnsFrom file at k) (raisedFrom file at k) (loweredFrom file at k)) k (λ j l.
       let it = walk-each (flipsTest (inFile file) n m (columnsFrom file at k) (raisedFrom file at k) (loweredFrom file at k)) from k passed j l in
       let moved = flips-move file n m j (columnsFrom file at k) (raisedFrom file at k) (loweredFrom file at k) from (it .led) (omega arith) .0 in
       let here : it .here .at ≡ at + 22 * j = omega arith in
@@ -122,8 +122,8 @@ module _ {file : List ℕ} (f : File file) where
       let head = head-stands h in
       let c = contentIn file in
       let head-part : List ℕ = headBytes (c .n) (c .m) (c .groups) (c .flips) (c .total) in
-      let groups-part : List ℕ = run (groupOf (c .taxa) (c .costs)) (c .groups) in
-      let flips-part : List ℕ = run (flipsOf (c .columns) (c .raised) (c .lowered)) (c .flips) in
+      let groups-part : List ℕ = run (groupRecord (c .taxa) (c .costs)) (c .groups) in
+      let flips-part : List ℕ = run (flipsRecord (c .columns) (c .raised) (c .lowered)) (c .flips) in
       head ∙ ap (_++_ head-part) (groups ∙ ap (_++_ groups-part) (flips ∙ ap (_++_ flips-part) (rw end-at at ends))) ∙ simp append-assoc
 
   pub taken-length : {next : Cursor} → At next ≡ fileTests file → length file ≡ lengthOf (contentIn file)

@@ -18,7 +18,7 @@ use Rattle.record.specs.declared.Passed.{Passed}
 use Rattle.record.specs.declared.Passed.the-variants.{At, Refused}
 use Rattle.record.proofs.Steps.{Held, held}
 use Rattle.record.proofs.Passing.{where-holds, through-step, through}
-use Rattle.answer.specs.Content.{padded, entries, taxaIn, costsIn, columnsFrom, raisedFrom, loweredFrom}
+use Rattle.answer.specs.Content.{padded, numbersOf, taxaIn, costsIn, columnsFrom, raisedFrom, loweredFrom}
 use Rattle.answer.specs.Rules.{headFault, groupFault, floorOf, entryFault, sumOf}
 use Rattle.answer.specs.Tests.{judge, inFile, asGiven, walk, headTest, groupTest, entryTest, flipsTest}
 use Rattle.answer.proofs.Runs.{entry, length-entries, at-front, store-next}
@@ -163,7 +163,7 @@ module _ (file : List ℕ) where
   unfolding costsIn
   sum-padded groups =
       let g : ℕ → ℕ = λ i. numberAt 4 file (28 + 16 * i) in
-      sum-≡ groups (λ i l. at-front (entries g groups) (replicate 63 0) i (omega (arith, length-entries g groups)))
+      sum-≡ groups (λ i l. at-front (numbersOf g groups) (replicate 63 0) i (omega (arith, length-entries g groups)))
 
   pub column-there : (flips : ℕ) (from here : Cursor) (j : ℕ) → j < flips → here .at ≡ from .at + 22 * j → numberAt 2 file (here .at + 4) ≡ getD (columnsFrom file (from .at) flips) j 0
   unfolding columnsFrom

@@ -26,8 +26,8 @@ run piece zero = []
 run piece (suc k) = run piece k ++ piece k
 
 -- g 0, .., g (k - 1)
-abbrev pub entries : (ℕ → ℕ) → ℕ → List ℕ
-entries g = run (λ i. g i ∷ [])
+abbrev pub numbersOf : (ℕ → ℕ) → ℕ → List ℕ
+numbersOf g = run (λ i. g i ∷ [])
 
 -- ---- the file of a content
 
@@ -49,19 +49,19 @@ unfoldable pub endBytes : List ℕ
 endBytes = recordBytes (recordOf records.answerEnd) []
 
 -- The record of group i.
-abbrev pub groupOf : List ℕ → List ℕ → ℕ → List ℕ
-groupOf taxa costs i = groupBytes (getD taxa i 0) (getD costs i 0)
+abbrev pub groupRecord : List ℕ → List ℕ → ℕ → List ℕ
+groupRecord taxa costs i = groupBytes (getD taxa i 0) (getD costs i 0)
 
 -- The record of flips j.
-abbrev pub flipsOf : List ℕ → List ℕ → List ℕ → ℕ → List ℕ
-flipsOf columns raised lowered j = flipsBytes (getD columns j 0) (getD raised j 0) (getD lowered j 0)
+abbrev pub flipsRecord : List ℕ → List ℕ → List ℕ → ℕ → List ℕ
+flipsRecord columns raised lowered j = flipsBytes (getD columns j 0) (getD raised j 0) (getD lowered j 0)
 
 -- "An answer file is one head, its groups, its flips, one end."
 unfoldable pub fileOf : Content → List ℕ
 fileOf c =
     headBytes (c .n) (c .m) (c .groups) (c .flips) (c .total)
-    ++ run (groupOf (c .taxa) (c .costs)) (c .groups)
-    ++ run (flipsOf (c .columns) (c .raised) (c .lowered)) (c .flips)
+    ++ run (groupRecord (c .taxa) (c .costs)) (c .groups)
+    ++ run (flipsRecord (c .columns) (c .raised) (c .lowered)) (c .flips)
     ++ endBytes
 
 -- How long that is.
@@ -71,32 +71,32 @@ lengthOf c = 20 + 16 * c .groups + 22 * c .flips
 -- ---- the content of a file: the head takes 16 bytes, each group's record 16, each flips record 22
 
 -- The group count.
-abbrev pub groupsIn : List ℕ → ℕ
-groupsIn file = numberAt 2 file 8
+abbrev pub groupCount : List ℕ → ℕ
+groupCount file = numberAt 2 file 8
 
 -- The flipped column count.
-abbrev pub flipsIn : List ℕ → ℕ
-flipsIn file = numberAt 2 file 10
+abbrev pub flipCount : List ℕ → ℕ
+flipCount file = numberAt 2 file 10
 
 -- The taxa of the first groups.
 unfoldable pub taxaIn : List ℕ → ℕ → List ℕ
-taxaIn file = entries (λ i. numberAt 8 file (20 + 16 * i))
+taxaIn file = numbersOf (λ i. numberAt 8 file (20 + 16 * i))
 
 -- Their split costs.
 unfoldable pub costsIn : List ℕ → ℕ → List ℕ
-costsIn file = entries (λ i. numberAt 4 file (28 + 16 * i))
+costsIn file = numbersOf (λ i. numberAt 4 file (28 + 16 * i))
 
 -- The columns of flips records, of which the first starts at a place.
 unfoldable pub columnsFrom : List ℕ → ℕ → ℕ → List ℕ
-columnsFrom file at = entries (λ j. numberAt 2 file (at + 22 * j + 4))
+columnsFrom file at = numbersOf (λ j. numberAt 2 file (at + 22 * j + 4))
 
 -- Their raised sets.
 unfoldable pub raisedFrom : List ℕ → ℕ → ℕ → List ℕ
-raisedFrom file at = entries (λ j. numberAt 8 file (at + 22 * j + 6))
+raisedFrom file at = numbersOf (λ j. numberAt 8 file (at + 22 * j + 6))
 
 -- Their lowered sets.
 unfoldable pub loweredFrom : List ℕ → ℕ → ℕ → List ℕ
-loweredFrom file at = entries (λ j. numberAt 8 file (at + 22 * j + 14))
+loweredFrom file at = numbersOf (λ j. numberAt 8 file (at + 22 * j + 14))
 
 -- Where the flips start.
 abbrev pub flipsStart : ℕ → ℕ
@@ -108,14 +108,14 @@ contentIn file =
     record {
       n = numberAt 2 file 4;
       m = numberAt 2 file 6;
-      groups = groupsIn file;
-      flips = flipsIn file;
+      groups = groupCount file;
+      flips = flipCount file;
       total = numberAt 4 file 12;
-      taxa = taxaIn file (groupsIn file);
-      costs = costsIn file (groupsIn file);
-      columns = columnsFrom file (flipsStart (groupsIn file)) (flipsIn file);
-      raised = raisedFrom file (flipsStart (groupsIn file)) (flipsIn file);
-      lowered = loweredFrom file (flipsStart (groupsIn file)) (flipsIn file);
+      taxa = taxaIn file (groupCount file);
+      costs = costsIn file (groupCount file);
+      columns = columnsFrom file (flipsStart (groupCount file)) (flipCount file);
+      raised = raisedFrom file (flipsStart (groupCount file)) (flipCount file);
+      lowered = loweredFrom file (flipsStart (groupCount file)) (flipCount file);
     }
 
 -- ---- the content of a value, and the value of a content: "a value with 63 places, those past the last 0"

@@ -13,7 +13,7 @@ use Rattle.answer.specs.declared.Answer.{Answer}
 use Rattle.answer.specs.declared.Reading.{Reading}
 use Rattle.answer.specs.declared.Verdict.{Verdict}
 use Rattle.answer.specs.declared.Verdict.the-variants.{Taken, Refused}
-use Rattle.answer.specs.Content.{Content, contentIn, flipsIn, answerOf}
+use Rattle.answer.specs.Content.{Content, contentIn, flipCount, answerOf}
 use Rattle.answer.specs.Tests.{judge, inFile, tests}
 
 -- How many entries a lent list has that stands in three parts.
@@ -22,11 +22,11 @@ listed columns raised lowered = min (length columns) (min (length raised) (lengt
 
 -- The file's own tests, on what it says; "14 comes before 8".
 unfoldable pub fileTests : List ℕ → Passed
-fileTests file = onward (tests (inFile file) (contentIn file) (flipsIn file)) (nothingAfter file)
+fileTests file = onward (tests (inFile file) (contentIn file) (flipCount file)) (nothingAfter file)
 
 -- "Read, list shorter than the flipped column count" (10), last.
 unfoldable pub readTests : List ℕ → ℕ → Passed
-readTests file room = onward (fileTests file) (judge (cond (ltb room (flipsIn file)) 10 0) 0)
+readTests file room = onward (fileTests file) (judge (cond (ltb room (flipCount file)) 10 0) 0)
 
 -- What a refusal returns beside its number and place: "0 for every other number".
 abbrev pub empty : Content

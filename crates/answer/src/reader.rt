@@ -3,7 +3,7 @@ ghost use mathlib.Core.Path.{_≡_};
 ghost use Prim.Native.Nat.{_≤_, _+_, _*_};
 ghost use lib.ListN.{length};
 ghost use Rattle.record.specs.Bytes.{numberAt, over};
-ghost use Rattle.answer.specs.Content.{padded, taxaIn, costsIn, columnsFrom, raisedFrom, loweredFrom, contentIn, answerOf, groupsIn, flipsIn};
+ghost use Rattle.answer.specs.Content.{padded, taxaIn, costsIn, columnsFrom, raisedFrom, loweredFrom, contentIn, answerOf, groupCount, flipCount};
 ghost use Rattle.answer.specs.Tests.{inFile, walk, headTest, groupTest, entryTest, flipsTest, endTest};
 ghost use Rattle.answer.specs.Reading.{fileTests};
 use super::Answer;
@@ -23,7 +23,7 @@ use record::number::u64_at;
 fn pass_head(file: &[u8]) -> Passed
     ensures { λ r. ⌜
         r ≡ headTest (inFile (now (file .entry))) (numberAt 2 (now (file .entry)) 4) (numberAt 2 (now (file .entry)) 6)
-        (groupsIn (now (file .entry))) (flipsIn (now (file .entry))) (flipsIn (now (file .entry))) ⌝ }
+        (groupCount (now (file .entry))) (flipCount (now (file .entry))) (flipCount (now (file .entry))) ⌝ }
 {
     let step = Cursor::start().read(file, Record::of(Record::ANSWER_HEAD));
     let Step::Payload(_, next) = step else {
@@ -174,7 +174,7 @@ pub fn pass_file(file: &[u8]) -> Passed
 
 // The value of a file that passed.
 pub fn answer_in(file: &[u8]) -> Answer
-    requires { ⌜ (groupsIn (now file) ≤ 63) × (16 + 16 * groupsIn (now file) ≤ length (now file)) ⌝ }
+    requires { ⌜ (groupCount (now file) ≤ 63) × (16 + 16 * groupCount (now file) ≤ length (now file)) ⌝ }
     ensures { λ r. ⌜ r ≡ answerOf (contentIn (now (file .entry))) ⌝ }
 {
     let groups = u16_at(file, 8);

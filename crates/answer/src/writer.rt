@@ -3,7 +3,7 @@ ghost use mathlib.Core.Path.{_≡_};
 ghost use Prim.Native.Nat.{ℕ, _<_, _≤_, _*_};
 ghost use lib.ListN.{length, getD};
 ghost use Rattle.record.specs.Bytes.{over};
-ghost use Rattle.answer.specs.Content.{run, headBytes, groupBytes, flipsBytes, endBytes, groupOf, flipsOf, fileOf, lengthOf, contentOf};
+ghost use Rattle.answer.specs.Content.{run, headBytes, groupBytes, flipsBytes, endBytes, groupRecord, flipsRecord, fileOf, lengthOf, contentOf};
 use super::Answer;
 use record::Record;
 use record::writer::put_opening;
@@ -51,7 +51,7 @@ pub fn put_end(out: &mut [u8])
 
 fn put_groups(out: &mut [u8], taxa: &[u64; 63], costs: &[u32; 63], groups: usize)
     requires { ⌜ (groups ≤ 63) × (16 * groups ≤ length (now out)) ⌝ }
-    ensures { λ _. ⌜ now (out .exit) ≡ over (run (groupOf (now (taxa .entry)) (now (costs .entry))) groups) 0 (now (out .entry)) ⌝ }
+    ensures { λ _. ⌜ now (out .exit) ≡ over (run (groupRecord (now (taxa .entry)) (now (costs .entry))) groups) 0 (now (out .entry)) ⌝ }
 {
     let mut i: usize = 0;
     let mut at: usize = 0;
@@ -66,7 +66,7 @@ fn put_flips(out: &mut [u8], columns: &[u64], raised: &[u64], lowered: &[u64], f
     requires { ⌜ 22 * flips ≤ length (now out) ⌝ }
     requires { ⌜ (flips ≤ length (now columns)) × (flips ≤ length (now raised)) × (flips ≤ length (now lowered)) ⌝ }
     requires { ⌜ ((j : ℕ) → j < flips → getD (now columns) j 0 < 65536) ⌝ }
-    ensures { λ _. ⌜ now (out .exit) ≡ over (run (flipsOf (now (columns .entry)) (now (raised .entry)) (now (lowered .entry))) flips) 0 (now (out .entry)) ⌝ }
+    ensures { λ _. ⌜ now (out .exit) ≡ over (run (flipsRecord (now (columns .entry)) (now (raised .entry)) (now (lowered .entry))) flips) 0 (now (out .entry)) ⌝ }
 {
     let mut j: usize = 0;
     let mut at: usize = 0;

@@ -17,7 +17,7 @@ use Rattle.record.specs.declared.Passed.{Passed}
 use Rattle.record.specs.declared.Passed.the-variants as passed
 use Rattle.record.specs.declared.Refusal.{Refusal}
 use Rattle.record.proofs.Passing.{through}
-use Rattle.answer.specs.Content.{contentIn, answerOf, flipsIn, columnsFrom, raisedFrom, loweredFrom}
+use Rattle.answer.specs.Content.{contentIn, answerOf, flipCount, columnsFrom, raisedFrom, loweredFrom}
 use Rattle.answer.specs.Tests.{judge, inFile, flipsTest}
 use Rattle.answer.specs.Reading.{returned, empty, listed, fileTests, readTests, reading, answered, Reads}
 use Rattle.answer.specs.declared.Reading.{Reading}
@@ -29,7 +29,7 @@ use Rattle.answer.proofs.Files.{read-through}
 use Rattle.answer.proofs.Runs.{length-entries}
 use Rattle.answer.proofs.Outcomes.{laid}
 use Rattle.entries.specs.declared.Flip.{Flip}
-use Rattle.entries.specs.Entries.{zipped, entriesOf, over, stored, ReadsEntries, InParts}
+use Rattle.entries.specs.Entries.{zipped, entriesOf, withFirst, stored, ReadsEntries, InParts}
 use Rattle.entries.proofs.Rows.{long-zipped}
 
 -- ---- entries from parts
@@ -51,7 +51,7 @@ module _ (file : List ℕ) (ys : List Flip) (r : Reading) (cs us ds : List ℕ) 
   first : take k (zipped cs us ds) ≡ stored (r .verdict) (entriesOf (contentIn file))
   first = take-zipped k cs us ds ∙ (λ i. zipped (p .columns-first i) (p .raised-first i) (p .lowered-first i)) ∙ stored-zipped (r .verdict) (contentIn file .columns) (contentIn file .raised) (contentIn file .lowered)
 
-  pub parts-read : k ≤ length cs → k ≤ length us → k ≤ length ds → ReadsEntries file ys r (over k (zipped cs us ds) ys)
+  pub parts-read : k ≤ length cs → k ≤ length us → k ≤ length ds → ReadsEntries file ys r (withFirst k (zipped cs us ds) ys)
   parts-read l m n =
       let long : k ≡ length (stored (r .verdict) (entriesOf (contentIn file))) = sym (length-take-le k (zipped cs us ds) (long-zipped k cs us ds l m n)) ∙ ap length first in
       record { answers = p .answers; numbers = ap returned (p .answers); list-after = λ i. first i ++ drop (long i) ys }
@@ -65,19 +65,19 @@ room-same entries flips few = go (ltb entries flips) refl
     go false e = let l = ltb-false entries flips e in le-ltb (min entries 256) flips (omega arith)
 
 module _ (file : List ℕ) where
-  few-flips : {here : Cursor} → passed.At here ≡ fileTests file → flipsIn file ≤ 256
+  few-flips : {here : Cursor} → passed.At here ≡ fileTests file → flipCount file ≤ 256
   few-flips e = let h = laid file e .head-kept in omega (arith, h .flips-fit, h .columns)
 
   reading-same : (entries : ℕ) → reading file (min entries 256) ≡ reading file entries
   unfolding reading readTests
   reading-same entries = ap (answered (contentIn file)) (go (fileTests file) refl)
     where
-      go : (p : Passed) → p ≡ fileTests file → onward p (judge (cond (ltb (min entries 256) (flipsIn file)) 10 0) 0) ≡ onward p (judge (cond (ltb entries (flipsIn file)) 10 0) 0)
-      go (passed.At here) e = ap (λ (b : Bool). judge (cond b 10 0) 0 here) (room-same entries (flipsIn file) (few-flips e))
+      go : (p : Passed) → p ≡ fileTests file → onward p (judge (cond (ltb (min entries 256) (flipCount file)) 10 0) 0) ≡ onward p (judge (cond (ltb entries (flipCount file)) 10 0) 0)
+      go (passed.At here) e = ap (λ (b : Bool). judge (cond b 10 0) 0 here) (room-same entries (flipCount file) (few-flips e))
       go (passed.Refused why) e = refl
 
   -- A column of an accepted file is below m.
-  column-below : {here : Cursor} → passed.At here ≡ fileTests file → (i : ℕ) → i < flipsIn file → getD (contentIn file .columns) i 0 < 256
+  column-below : {here : Cursor} → passed.At here ≡ fileTests file → (i : ℕ) → i < flipCount file → getD (contentIn file .columns) i 0 < 256
   column-below e i l =
       let c = contentIn file in
       let s = read-through file e .stages in
@@ -100,8 +100,8 @@ module _ (file : List ℕ) (entries : ℕ) where
   refused-parts why e a =
       record { answers = a; has-room = rw e (omega arith); few = rw e (omega arith); columns-first = rw e; raised-first = rw e; lowered-first = rw e; columns-narrow = rw e (λ i l. absurd (not-suc-le-zero l)) }
 
-  taken-parts : {here : Cursor} {r : Reading} {cs us ds : List ℕ} → passed.At here ≡ fileTests file → flipsIn file ≤ room → r ≡ record { verdict = Taken; answer = answerOf (contentIn file) } → r ≡ reading file entries
-      → take (flipsIn file) cs ≡ contentIn file .columns → take (flipsIn file) us ≡ contentIn file .raised → take (flipsIn file) ds ≡ contentIn file .lowered → InParts file entries r cs us ds
+  taken-parts : {here : Cursor} {r : Reading} {cs us ds : List ℕ} → passed.At here ≡ fileTests file → flipCount file ≤ room → r ≡ record { verdict = Taken; answer = answerOf (contentIn file) } → r ≡ reading file entries
+      → take (flipCount file) cs ≡ contentIn file .columns → take (flipCount file) us ≡ contentIn file .raised → take (flipCount file) ds ≡ contentIn file .lowered → InParts file entries r cs us ds
   taken-parts {cs = cs} p l e a c u d =
       record {
         answers = a;
@@ -110,7 +110,7 @@ module _ (file : List ℕ) (entries : ℕ) where
         columns-first = rw e c;
         raised-first = rw e u;
         lowered-first = rw e d;
-        columns-narrow = rw e (λ i s. let b = column-below file p i s in omega (arith, getD-take (flipsIn file) cs i 0 s, ap (λ (xs : List ℕ). getD xs i 0) c));
+        columns-narrow = rw e (λ i s. let b = column-below file p i s in omega (arith, getD-take (flipCount file) cs i 0 s, ap (λ (xs : List ℕ). getD xs i 0) c));
       }
 
   module _ (cs us ds : List ℕ) (l₁ : length cs ≡ 256) (l₂ : length us ≡ 256) (l₃ : length ds ≡ 256) {r : Reading} {cs′ us′ ds′ : List ℕ} (reads : Reads file (take room cs) (take room us) (take room ds) r cs′ us′ ds′) where
@@ -130,10 +130,10 @@ module _ (file : List ℕ) (entries : ℕ) where
         go : (p : Passed) → p ≡ readTests file room → InParts file entries r (cs′ ++ drop room cs) (us′ ++ drop room us) (ds′ ++ drop room ds)
         go (passed.At here) e =
             let (at, p, j) = through (fileTests file) e in
-            let l = ltb-false room (flipsIn file) (unless _ 10 0 (omega arith) (through-judge _ 0 at j .0) .0) in
+            let l = ltb-false room (flipCount file) (unless _ 10 0 (omega arith) (through-judge _ 0 at j .0) .0) in
             let is : r ≡ record { verdict = Taken; answer = answerOf (contentIn file) } = answers-room ∙ ap (answered (contentIn file)) (sym e) in
             taken-parts p l is (answers-room ∙ reading-same file entries)
-            (rw (reads .columns-after, is) (front (contentIn file .columns) (take room cs) (drop room cs) (flipsIn file) (length-entries _ (flipsIn file))))
-            (rw (reads .raised-after, is) (front (contentIn file .raised) (take room us) (drop room us) (flipsIn file) (length-entries _ (flipsIn file))))
-            (rw (reads .lowered-after, is) (front (contentIn file .lowered) (take room ds) (drop room ds) (flipsIn file) (length-entries _ (flipsIn file))))
+            (rw (reads .columns-after, is) (front (contentIn file .columns) (take room cs) (drop room cs) (flipCount file) (length-entries _ (flipCount file))))
+            (rw (reads .raised-after, is) (front (contentIn file .raised) (take room us) (drop room us) (flipCount file) (length-entries _ (flipCount file))))
+            (rw (reads .lowered-after, is) (front (contentIn file .lowered) (take room ds) (drop room ds) (flipCount file) (length-entries _ (flipCount file))))
         go (passed.Refused why) e = refused-parts why (answers-room ∙ ap (answered (contentIn file)) (sym e)) (answers-room ∙ reading-same file entries)

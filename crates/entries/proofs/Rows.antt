@@ -9,36 +9,36 @@ use native.Mathlib.Omega.{arith}
 use mathlib.Core.List.{List, [], _∷_, map}
 use lib.ListN.{length, getD, set, length-map, List·getD-map}
 use Rattle.entries.specs.declared.Flip.{Flip}
-use Rattle.entries.specs.Entries.{zipped, over}
+use Rattle.entries.specs.Entries.{zipped, withFirst}
 
 -- what `getD` gives past the end of a list of flips
 abbrev pub blank : Flip
 blank = record { column = 0; raised = 0; lowered = 0 }
 
-pub set-next : {X : Type 0} (k : ℕ) (xs zs : List X) (d : X) → k < length xs → k < length zs → set (over k xs zs) k (getD xs k d) ≡ over (suc k) xs zs
+pub set-next : {X : Type 0} (k : ℕ) (xs zs : List X) (d : X) → k < length xs → k < length zs → set (withFirst k xs zs) k (getD xs k d) ≡ withFirst (suc k) xs zs
 set-next k [] zs d l m = absurd (not-suc-le-zero l)
 set-next k (x ∷ xs) [] d l m = absurd (not-suc-le-zero m)
 set-next zero (x ∷ xs) (z ∷ zs) d l m = refl
 set-next {X} (suc k) (x ∷ xs) (z ∷ zs) d l m = ap {B = List X} (λ r. x ∷ r) (set-next k xs zs d (le-of-suc-le-suc l) (le-of-suc-le-suc m))
 
-pub length-over : {X : Type 0} (k : ℕ) (xs zs : List X) → k ≤ length xs → k ≤ length zs → length (over k xs zs) ≡ length zs
+pub length-over : {X : Type 0} (k : ℕ) (xs zs : List X) → k ≤ length xs → k ≤ length zs → length (withFirst k xs zs) ≡ length zs
 length-over zero xs zs l m = refl
 length-over (suc k) [] zs l m = absurd (not-suc-le-zero l)
 length-over (suc k) (x ∷ xs) [] l m = absurd (not-suc-le-zero m)
 length-over (suc k) (x ∷ xs) (z ∷ zs) l m = ap suc (length-over k xs zs (le-of-suc-le-suc l) (le-of-suc-le-suc m))
 
-pub within-over : {X : Type 0} (k : ℕ) (xs zs : List X) → k < length xs → k < length zs → k < length (over k xs zs)
+pub within-over : {X : Type 0} (k : ℕ) (xs zs : List X) → k < length xs → k < length zs → k < length (withFirst k xs zs)
 within-over k xs zs l m = subst (λ (n : ℕ). k < n) (sym (length-over k xs zs (le-of-lt l) (le-of-lt m))) m
 
 -- ---- one number of each flip
-pub length-copied : (f : Flip → ℕ) (k : ℕ) (ys : List Flip) (cs : List ℕ) → k ≤ length ys → k ≤ length cs → length (over k (map f ys) cs) ≡ length cs
+pub length-copied : (f : Flip → ℕ) (k : ℕ) (ys : List Flip) (cs : List ℕ) → k ≤ length ys → k ≤ length cs → length (withFirst k (map f ys) cs) ≡ length cs
 length-copied f k ys cs l m = length-over k (map f ys) cs (subst (λ (n : ℕ). k ≤ n) (sym (length-map ys f)) l) m
 
-pub within-copied : (f : Flip → ℕ) (k : ℕ) (ys : List Flip) (cs : List ℕ) → k < length ys → k < length cs → k < length (over k (map f ys) cs)
+pub within-copied : (f : Flip → ℕ) (k : ℕ) (ys : List Flip) (cs : List ℕ) → k < length ys → k < length cs → k < length (withFirst k (map f ys) cs)
 within-copied f k ys cs l m = within-over k (map f ys) cs (subst (λ (n : ℕ). k < n) (sym (length-map ys f)) l) m
 
-pub set-copied : (f : Flip → ℕ) (k : ℕ) (ys : List Flip) (cs : List ℕ) → k < length ys → k < length cs → set (over k (map f ys) cs) k (f (getD ys k blank)) ≡ over (suc k) (map f ys) cs
-set-copied f k ys cs l m = ap (set (over k (map f ys) cs) k) (sym (List·getD-map f ys k blank)) ∙ set-next k (map f ys) cs (f blank) (subst (λ (n : ℕ). k < n) (sym (length-map ys f)) l) m
+pub set-copied : (f : Flip → ℕ) (k : ℕ) (ys : List Flip) (cs : List ℕ) → k < length ys → k < length cs → set (withFirst k (map f ys) cs) k (f (getD ys k blank)) ≡ withFirst (suc k) (map f ys) cs
+set-copied f k ys cs l m = ap (set (withFirst k (map f ys) cs) k) (sym (List·getD-map f ys k blank)) ∙ set-next k (map f ys) cs (f blank) (subst (λ (n : ℕ). k < n) (sym (length-map ys f)) l) m
 
 -- ---- three rows as one
 pub long-zipped : (k : ℕ) (cs us ds : List ℕ) → k ≤ length cs → k ≤ length us → k ≤ length ds → k ≤ length (zipped cs us ds)

@@ -22,7 +22,7 @@ use Rattle.answer.proofs.Walks.{given-head}
 use Rattle.answer.proofs.Stages.{head-stops}
 use Rattle.answer.proofs.Outcomes.{given-refused}
 use Rattle.entries.specs.declared.Flip.{Flip}
-use Rattle.entries.specs.Entries.{columnsOf, raisedOf, loweredOf, over}
+use Rattle.entries.specs.Entries.{entryColumns, entryRaised, entryLowered, withFirst}
 use Rattle.entries.proofs.Reading.{room-same}
 
 -- ---- the head is judged as for the whole list
@@ -55,7 +55,7 @@ unfolding writing writeTests tests
 writing-same c entries room = rw (head-test-same (c .n) (c .m) (c .groups) (c .flips) entries)
 
 -- ---- the parts' first entries are the list's
-cut-first : (k : ℕ) (xs zs : List ℕ) → k ≤ length xs → take k (over k xs zs) ≡ take k xs
+cut-first : (k : ℕ) (xs zs : List ℕ) → k ≤ length xs → take k (withFirst k xs zs) ≡ take k xs
 cut-first k xs zs l = take-at (take k xs) (drop k zs) k (length-take-le k xs l)
 
 module _ (a : Answer) (ys : List Flip) (cs us ds : List ℕ) where
@@ -63,19 +63,19 @@ module _ (a : Answer) (ys : List Flip) (cs us ds : List ℕ) where
   k = min (length ys) 256
 
   abbrev given : ℕ → Content
-  given n = contentOf a (take n (columnsOf ys)) (take n (raisedOf ys)) (take n (loweredOf ys))
+  given n = contentOf a (take n (entryColumns ys)) (take n (entryRaised ys)) (take n (entryLowered ys))
 
   abbrev whole : Content
-  whole = contentOf a (columnsOf ys) (raisedOf ys) (loweredOf ys)
+  whole = contentOf a (entryColumns ys) (entryRaised ys) (entryLowered ys)
 
   all-given : length ys ≤ 256 → given k ≡ whole
   all-given l =
       let all : (xs : List ℕ) → length xs ≡ length ys → take k xs ≡ xs = λ xs e. take-all k xs (omega arith) in
-      λ i. contentOf a (all (columnsOf ys) (length-map ys _) i) (all (raisedOf ys) (length-map ys _) i) (all (loweredOf ys) (length-map ys _) i)
+      λ i. contentOf a (all (entryColumns ys) (length-map ys _) i) (all (entryRaised ys) (length-map ys _) i) (all (entryLowered ys) (length-map ys _) i)
 
   enough-given : a .flips ≤ k → given k ≡ whole
   enough-given l =
-      rw (take-take (a .flips) k (columnsOf ys) l, take-take (a .flips) k (raisedOf ys) l, take-take (a .flips) k (loweredOf ys) l)
+      rw (take-take (a .flips) k (entryColumns ys) l, take-take (a .flips) k (entryRaised ys) l, take-take (a .flips) k (entryLowered ys) l)
 
   module _ (out : List ℕ) {r : Written} {out′ : List ℕ} where
     same : Writes whole k out r out′ → Writes whole (length ys) out r out′
@@ -104,8 +104,8 @@ module _ (a : Answer) (ys : List Flip) (cs us ds : List ℕ) where
         few true e = counted-few (ltb 256 (a .flips)) refl (ltb-true 256 (length ys) e)
         few false e = same (rw (all-given (ltb-false 256 (length ys) e)) at w)
 
-    pub parts-written : Writes (contentOf a (take k (over k (columnsOf ys) cs)) (take k (over k (raisedOf ys) us)) (take k (over k (loweredOf ys) ds))) k out r out′ → Writes whole (length ys) out r out′
-    parts-written w = of-given (rw (cut-first k (columnsOf ys) cs (long _), cut-first k (raisedOf ys) us (long _), cut-first k (loweredOf ys) ds (long _)) at w)
+    pub parts-written : Writes (contentOf a (take k (withFirst k (entryColumns ys) cs)) (take k (withFirst k (entryRaised ys) us)) (take k (withFirst k (entryLowered ys) ds))) k out r out′ → Writes whole (length ys) out r out′
+    parts-written w = of-given (rw (cut-first k (entryColumns ys) cs (long _), cut-first k (entryRaised ys) us (long _), cut-first k (entryLowered ys) ds (long _)) at w)
       where
         long : (f : Flip → ℕ) → k ≤ length (map f ys)
         long f = let e = length-map ys f in omega arith

@@ -18,24 +18,24 @@ zipped (c ∷ cs) (u ∷ us) [] = []
 zipped (c ∷ cs) (u ∷ us) (d ∷ ds) = record { column = c; raised = u; lowered = d } ∷ zipped cs us ds
 
 -- The entries' columns.
-abbrev pub columnsOf : List Flip → List ℕ
-columnsOf ys = map (λ (f : Flip). f .column) ys
+abbrev pub entryColumns : List Flip → List ℕ
+entryColumns ys = map (λ (f : Flip). f .column) ys
 
 -- Their raised taxa.
-abbrev pub raisedOf : List Flip → List ℕ
-raisedOf ys = map (λ (f : Flip). f .raised) ys
+abbrev pub entryRaised : List Flip → List ℕ
+entryRaised ys = map (λ (f : Flip). f .raised) ys
 
 -- Their lowered taxa.
-abbrev pub loweredOf : List Flip → List ℕ
-loweredOf ys = map (λ (f : Flip). f .lowered) ys
+abbrev pub entryLowered : List Flip → List ℕ
+entryLowered ys = map (λ (f : Flip). f .lowered) ys
 
 -- The entries of an answer.
 abbrev pub entriesOf : Content → List Flip
 entriesOf c = zipped (c .columns) (c .raised) (c .lowered)
 
 -- A list with its first k elements replaced by those of another.
-abbrev pub over : {X : Type 0} → ℕ → List X → List X → List X
-over k xs zs = take k xs ++ drop k zs
+abbrev pub withFirst : {X : Type 0} → ℕ → List X → List X → List X
+withFirst k xs zs = take k xs ++ drop k zs
 
 -- Each of the first k columns fits its file width.
 abbrev pub narrow : List ℕ → ℕ → Type 0

@@ -11,7 +11,7 @@ ghost use Prim.Native.Nat.{_≤_, min};
 ghost use lib.ListN.{length, take};
 ghost use Rattle.answer.specs.Content.{contentOf};
 ghost use Rattle.answer.specs.Writing.{Writes};
-ghost use Rattle.entries.specs.Entries.{zipped, columnsOf, raisedOf, loweredOf, over, narrow, InParts, ReadsEntries};
+ghost use Rattle.entries.specs.Entries.{zipped, entryColumns, entryRaised, entryLowered, withFirst, narrow, InParts, ReadsEntries};
 
 // A column with its raised and lowered taxa, the column in its file width. As C lays it out, so that C can lend a list of them.
 #[repr(C)]
@@ -35,7 +35,7 @@ fn fill(list: &mut [Flip], columns: &[u64], raised: &[u64], lowered: &[u64], cou
         × ((count ≤ length (now columns)) × ((count ≤ length (now raised)) × ((count ≤ length (now lowered)) × narrow (now columns) count))) ⌝ }
     ensures { λ _. ⌜
         now (list .exit)
-        ≡ over count (zipped (now (columns .entry)) (now (raised .entry)) (now (lowered .entry))) (now (list .entry)) ⌝ }
+        ≡ withFirst count (zipped (now (columns .entry)) (now (raised .entry)) (now (lowered .entry))) (now (list .entry)) ⌝ }
 {
     let mut k: usize = 0;
     while k < count {
@@ -58,9 +58,9 @@ fn take_apart(
 )
     requires { ⌜ (count ≤ length (now list)) × ((count ≤ length (now columns)) × ((count ≤ length (now raised)) × (count ≤ length (now lowered)))) ⌝ }
     ensures { λ _. ⌜
-        (now (columns .exit) ≡ over count (columnsOf (now (list .entry))) (now (columns .entry)))
-        × ((now (raised .exit) ≡ over count (raisedOf (now (list .entry))) (now (raised .entry)))
-        × (now (lowered .exit) ≡ over count (loweredOf (now (list .entry))) (now (lowered .entry)))) ⌝ }
+        (now (columns .exit) ≡ withFirst count (entryColumns (now (list .entry))) (now (columns .entry)))
+        × ((now (raised .exit) ≡ withFirst count (entryRaised (now (list .entry))) (now (raised .entry)))
+        × (now (lowered .exit) ≡ withFirst count (entryLowered (now (list .entry))) (now (lowered .entry)))) ⌝ }
 {
     let mut k: usize = 0;
     while k < count {
@@ -136,7 +136,7 @@ pub fn read_answer(file: &[u8], list: &mut [Flip]) -> Reading
 // The operation "write an answer".
 pub fn write_answer(answer: Answer, list: &[Flip], out: &mut [u8]) -> Written
     ensures { λ r. ⌜
-        Writes (contentOf answer (columnsOf (now (list .entry))) (raisedOf (now (list .entry))) (loweredOf (now (list .entry))))
+        Writes (contentOf answer (entryColumns (now (list .entry))) (entryRaised (now (list .entry))) (entryLowered (now (list .entry))))
         (length (now (list .entry))) (now (out .entry)) r (now (out .exit)) ⌝ }
 {
     let mut columns = [0u64; 256];

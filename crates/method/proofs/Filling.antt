@@ -23,13 +23,13 @@ fills-⊆ s f = record { ones = λ x. f .ones (s .sub x); zeros = λ x. f .zeros
 pub fills-same : {X F : ℕ} {c d : Column} → ((i : ℕ) → i ∈ X → Same c d i) → Fills X c F → Fills X d F
 fills-same e f = record { ones = λ {i} x h. f .ones x (same-one (e i x) h); zeros = λ {i} x y h. f .zeros x y (same-zero (e i x) h) }
 
-pub clade-more : {gs hs : List Group} {F : ℕ} → ((g : Group) → List·Memᴰ g gs → List·Memᴰ g hs) → Clade gs F → Clade hs F
-clade-more s (single i e) = single i e
-clade-more s (group g l e) = group g (s g l) e
+pub clade-more : {X Y : ℕ} {gs hs : List Group} {F : ℕ} → X ⊆ Y → ((g : Group) → List·Memᴰ g gs → List·Memᴰ g hs) → Clade X gs F → Clade Y hs F
+clade-more x s (single i b e) = single i (x .sub b) e
+clade-more x s (group g l e) = group g (s g l) e
 
 -- The empty set stays so.
-pub or-more : {A : Type 0} {gs hs : List Group} {F : ℕ} → ((g : Group) → List·Memᴰ g gs → List·Memᴰ g hs) → A ⊎ Clade gs F → A ⊎ Clade hs F
-or-more s = ⊎-elim inl (λ d. inr (clade-more s d))
+pub or-more : {A : Type 0} {X Y : ℕ} {gs hs : List Group} {F : ℕ} → X ⊆ Y → ((g : Group) → List·Memᴰ g gs → List·Memᴰ g hs) → A ⊎ Clade X gs F → A ⊎ Clade Y hs F
+or-more x s = ⊎-elim inl (λ d. inr (clade-more x s d))
 
 -- Two taxa of a set of one are one.
 count-one : (k : ℕ) {S i j : ℕ} → S < 2 ^ k → count k S ≤ 1 → i ∈ S → j ∈ S → j ≡ i
@@ -41,15 +41,15 @@ count-one k {S} {i} {j} fits l x y =
 
 module _ (k m : ℕ) where
   -- A group of one taxon.
-  leaf-filled : {S : ℕ} {c : Column} {gs : List Group} → S < 2 ^ k → count k S ≤ 1 → Proper c → Filled (Clade gs) S c
+  leaf-filled : {S : ℕ} {c : Column} {gs : List Group} → S < 2 ^ k → count k S ≤ 1 → Proper c → Filled (Clade S gs) S c
   leaf-filled {S} {c} {gs} fits l p = go (decLt 0 (count k (c .ones ∩ S)))
     where
-      go : Dec (0 < count k (c .ones ∩ S)) → Filled (Clade gs) S c
+      go : Dec (0 < count k (c .ones ∩ S)) → Filled (Clade S gs) S c
       go (yes q) =
           let (i, b, h) = count-some k (c .ones ∩ S) q in
           let (o, x) = in∩ (c .ones) S .0 h in (
             2 ^ i,
-            inr (single i refl),
+            inr (single i x refl),
             pow-⊆ x,
             record {
               ones = λ y o′. subst (λ (j : ℕ). j ∈ 2 ^ i) (sym (count-one k fits l x y)) (in-pow i);
@@ -68,7 +68,7 @@ module _ (k m : ℕ) where
 
   -- A walk of S fills the columns.
   abbrev Fill : (ℕ → Column) → ℕ → Walk → Type 0
-  Fill cols S w = ((c : ℕ) → Proper (cols c)) → (c : ℕ) → c < m → Filled (Clade (w .groups)) S (w .columns c)
+  Fill cols S w = ((c : ℕ) → Proper (cols c)) → (c : ℕ) → c < m → Filled (Clade S (w .groups)) S (w .columns c)
 
   walked-filled : {old : ℕ → Column} {S R : ℕ} {Ps : List ℕ} → R < 2 ^ k → Parts k m old S R Ps → ((P : ℕ) → List·Memᴰ P Ps → (cols : ℕ → Column) → Fill cols P (build k m cols P))
       → (P : ℕ) → List·Memᴰ P Ps → (cols : ℕ → Column) → Fill cols P (walked (build k m) cols Ps)
@@ -78,14 +78,14 @@ module _ (k m : ℕ) where
       let rest = parts-tame k m {R = R ∖ P} (omega (arith, ⊆-≤ (∖-⊆ R P))) ps mid in
       let (F, d, r, f) = h P (List·Memᴰ·head refl) cols q c b in (
         F,
-        or-more (λ x l. Memᴰ·append-left (walked (build k m) mid Ps .groups) l) d,
+        or-more (subst (λ (X : ℕ). P ⊆ X) (sym e) (⊆-refl P)) (λ x l. Memᴰ·append-left (walked (build k m) mid Ps .groups) l) d,
         subst (λ (X : ℕ). F ⊆ X) (sym e) r,
         subst (λ (X : ℕ). Fills X (walked (build k m) mid Ps .columns c) F) (sym e) (fills-same (λ i x. rest .frame c (λ y. in∖ R P .0 y .1 x)) f),
       )
   walked-filled fits (next {R} {P} {Ps} s p ps) h Q (List·Memᴰ·tail l) cols q c b =
       let proper = build-tame k m cols P (omega (arith, ⊆-≤ s)) .propers q in
       let (F, d, r, f) = walked-filled (omega (arith, ⊆-≤ (∖-⊆ R P))) ps (λ X y. h X (List·Memᴰ·tail y)) Q l (build k m cols P .columns) proper c b in
-      (F, or-more (λ x l. Memᴰ·append-right (build k m cols P .groups) l) d, r, f)
+      (F, or-more (⊆-refl Q) (λ x l. Memᴰ·append-right (build k m cols P .groups) l) d, r, f)
 
   module _ (cols : ℕ → Column) (S : ℕ) (fits : S < 2 ^ k) (two : 1 < count k S) where
     abbrev next-cols : ℕ → Column
@@ -111,13 +111,13 @@ module _ (k m : ℕ) where
         gs = node k m (build k m) cols S .groups
 
         -- The part of a one has all the ones, and the other parts are settled.
-        within-part : {i l : ℕ} → l ∈ S → l ∈ next-cols c .zeros → i ∈ S → i ∈ next-cols c .ones → Filled (Clade gs) S (last c)
+        within-part : {i l : ℕ} → l ∈ S → l ∈ next-cols c .zeros → i ∈ S → i ∈ next-cols c .ones → Filled (Clade S gs) S (last c)
         within-part {i} {l} lS lz iS io =
             let (P, x, iP) = cover k m next-cols S ps iS in
             let p = is-part k m next-cols S ps x .1 in
             let (F, d, r, f) = walked-filled fits ps h P x next-cols (after-proper k m cols S fits two q) c b in (
               F,
-              or-more (λ y z. List·Memᴰ·tail z) d,
+              or-more (p .inside) (λ y z. List·Memᴰ·tail z) d,
               ⊆-trans r (p .inside),
               record {
                 ones = λ {i = j} jS jo. elim (in? j P) [ yes jP ↦ f .ones jP jo | no n ↦ absurd (n (all P iP p j jS (same-one (other P x iP p j jS n) jo))) ];
@@ -135,7 +135,7 @@ module _ (k m : ℕ) where
                 (no-one (λ e eQ eo. n (subst (λ (X : ℕ). j ∈ X) (unique k m next-cols S ps y x eQ (all P iP p e (inside-R k m next-cols S ps y .sub eQ) eo)) jQ)))
                 jQ
 
-        go : Dec (0 < count k (next-cols c .zeros ∩ S)) → Dec (0 < count k (next-cols c .ones ∩ S)) → Filled (Clade gs) S (last c)
+        go : Dec (0 < count k (next-cols c .zeros ∩ S)) → Dec (0 < count k (next-cols c .ones ∩ S)) → Filled (Clade S gs) S (last c)
         go (no z) o =
             let none : (i : ℕ) → i ∈ S → i ∉ next-cols c .zeros = λ i x y. z (count-in k (below k fits x) (in∩ (next-cols c .zeros) S .1 (y, x))) in (
               S,

@@ -12,7 +12,7 @@ use Rattle.taxa.proofs.Sums.{sum-none}
 use Rattle.taxa.proofs.Members.{none as nothing, in?, in∩, in∖, empty as all-out, ⊆-refl, ⊆-trans, ∩-⊆, ∩-⊆ʳ, within-⊆, pow-in, pow-⊆}
 use Rattle.taxa.proofs.Counts.{count-none}
 use Rattle.method.specs.Split.{Column, Same, share, Division, divisionCost, splitCost, after, splitParts}
-use Rattle.method.specs.Tree.{Group, Walk, walked, total, node, build, Clade, group, single, Fills, NestedOrDisjoint, RootedTree, Fits}
+use Rattle.method.specs.Tree.{Group, Walk, walked, total, node, build, Clade, group, single, Fills, NestedOrDisjoint, Laminar, Fits}
 use Rattle.method.proofs.Flips.{Proper}
 use Rattle.method.proofs.Parts.{Parts, done, next, inside-R}
 use Rattle.method.proofs.Listing.{side-best, alone}
@@ -38,7 +38,7 @@ fitted-same e f c b = let (F, g, h) = f c b in (F, g, fills-same (λ i x. e c i 
 abbrev OrEmpty : (ℕ → Type 0) → ℕ → Type 0
 OrEmpty clade F = F ≡ 0 ⊎ clade F
 
-or-empty : {clade : ℕ → Type 0} → RootedTree clade → RootedTree (OrEmpty clade)
+or-empty : {clade : ℕ → Type 0} → Laminar clade → Laminar (OrEmpty clade)
 or-empty {clade} t = record { pair = go }
   where
     nothing-in : {X Y : ℕ} → X ≡ 0 → NestedOrDisjoint X Y
@@ -75,20 +75,20 @@ single-in i Y = elim (in? i Y) [ yes h ↦ inl (pow-⊆ h) | no n ↦ inr (recor
 pair-single : (i Y : ℕ) → NestedOrDisjoint (2 ^ i) Y
 pair-single i Y = ⊎-elim inl (λ o. inr (inr o)) (single-in i Y)
 
-pub clades-tree : (k : ℕ) {gs : List Group} → Lined k gs → RootedTree (Clade gs)
-clades-tree k {gs} l = record { pair = go }
+pub clades-laminar : (k X : ℕ) {gs : List Group} → Lined k gs → Laminar (Clade X gs)
+clades-laminar k Z {gs} l = record { pair = go }
   where
     first : {X X′ Y : ℕ} → X ≡ X′ → NestedOrDisjoint X′ Y → NestedOrDisjoint X Y
     first {Y = Y} e p = subst (λ (Z : ℕ). NestedOrDisjoint Z Y) (sym e) p
 
-    go : {X Y : ℕ} → Clade gs X → Clade gs Y → NestedOrDisjoint X Y
-    go {Y = Y} (single i e) q = first e (pair-single i Y)
-    go {X = X} (group g x e) (single i f) = pair-sym (first f (pair-single i X))
+    go : {X Y : ℕ} → Clade Z gs X → Clade Z gs Y → NestedOrDisjoint X Y
+    go {Y = Y} (single i b e) q = first e (pair-single i Y)
+    go {X = X} (group g x e) (single i b f) = pair-sym (first f (pair-single i X))
     go (group g x e) (group h y f) = first e (pair-sym (first f (lined-pair k l y x)))
 
 -- ---- a fitting family has a division that costs nothing
 
-module _ (k m : ℕ) {family : ℕ → Type 0} (lam : RootedTree family) (cols : ℕ → Column) (S : ℕ) (fits : S < 2 ^ k) (two : 1 < count k S) (fit : Chosen family m S cols) where
+module _ (k m : ℕ) {family : ℕ → Type 0} (lam : Laminar family) (cols : ℕ → Column) (S : ℕ) (fits : S < 2 ^ k) (two : 1 < count k S) (fit : Chosen family m S cols) where
   -- The member G does not lie across A: it has all of S, or has of S only what is in A, or nothing of A.
   abbrev Clear : ℕ → ℕ → Type 0
   Clear A G = S ⊆ G ⊎ (G ∩ S ⊆ A ⊎ Disjoint A G)
@@ -180,7 +180,7 @@ module _ (k m : ℕ) {family : ℕ → Type 0} (lam : RootedTree family) (cols :
 -- ---- the build
 
 module _ (k m : ℕ) where
-  module _ {family : ℕ → Type 0} (lam : RootedTree family) where
+  module _ {family : ℕ → Type 0} (lam : Laminar family) where
     -- A walk of S costs nothing where the family fits.
     abbrev Free-walk : (ℕ → Column) → ℕ → Walk → Type 0
     Free-walk cols S w = Heavy m cols → Fitted family m S cols → total (w .groups) ≡ 0
@@ -215,12 +215,12 @@ module _ (k m : ℕ) where
     free = build-ind k m Free-walk (λ cols S fits few w f. refl) node-free
 
   -- If a rooted tree fits the columns in the group, no split costs anything,
-  pub fits-free : {clade : ℕ → Type 0} → RootedTree clade → (cols : ℕ → Column) (S : ℕ) → S < 2 ^ k → Heavy m cols → Fits clade m S cols → total (build k m cols S .groups) ≡ 0
+  pub fits-free : {clade : ℕ → Type 0} → Laminar clade → (cols : ℕ → Column) (S : ℕ) → S < 2 ^ k → Heavy m cols → Fits clade m S cols → total (build k m cols S .groups) ≡ 0
   fits-free t cols S fits w f = free (or-empty t) cols S fits w (λ c b. let (F, g, r, h) = f c b in (F, g, h))
 
   -- and if none does, the clades of the build fit the columns, which it leaves as they were.
   pub free-fits : (cols : ℕ → Column) (S : ℕ) → S < 2 ^ k → Heavy m cols → ((c : ℕ) → Proper (cols c))
-      → total (build k m cols S .groups) ≡ 0 → Fits (Clade (build k m cols S .groups)) m S cols
+      → total (build k m cols S .groups) ≡ 0 → Fits (Clade S (build k m cols S .groups)) m S cols
   free-fits cols S fits h q e c b =
       let (F, g, r, x) = filled k m cols S fits q c b in
       (F, g, r, fills-same (λ i y. same-sym (build-tame k m cols S fits .calm h e c i b)) x)

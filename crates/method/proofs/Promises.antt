@@ -1,17 +1,17 @@
 -- What holds of the answer to a matrix that the check takes: each theorem stands for a sentence of the demands.
-use mathlib.Core.Path.{_≡_, sym, ap, _∙_, subst}
+use mathlib.Core.Path.{_≡_, refl, sym, ap, _∙_, subst}
 use mathlib.Core.Logic.{_≢_, by-cases}
-use mathlib.Core.List.{List, [], _∷_, List·Memᴰ}
+use mathlib.Core.List.{List, [], _∷_, List·Memᴰ, List·Memᴰ·head}
 use Prim.Native.Nat.{ℕ, zero, suc, _*_, _^_, _≤_, _<_}
 use native.Mathlib.Nat.{mul-le-mul-right}
 use native.Mathlib.Decide.{decLt}
 use native.Mathlib.Omega.{arith}
 use lib.ListN.{length, List·getD-eq-default}
 use Rattle.taxa.specs.Sets.{_∈_, _⊆_, Disjoint, _∩_, count, low, all}
-use Rattle.taxa.proofs.Members.{none, below, low-≤, in-all, all-<, all-fits, ∩-⊆, ⊆-trans}
-use Rattle.taxa.proofs.Counts.{count-all}
+use Rattle.taxa.proofs.Members.{none, below, low-≤, in-all, all-<, all-fits, ∩-⊆, ⊆-trans, ⊆-refl, in-pow, pow-⊆, in-pos}
+use Rattle.taxa.proofs.Counts.{count-all, count-pos}
 use Rattle.method.specs.Split.{Column, Same, Rule, side, parted, divisionCost, splitCost, after, FlipsAt, splitParts}
-use Rattle.method.specs.Tree.{Group, Walk, walked, node, build, ordered, Line, Before, sooner, larger, Flips, total, Matrix, column, answer, Sound, ComesTo, Components, made, weighedFlips, Clade, Filled, NestedOrDisjoint, RootedTree, Fits}
+use Rattle.method.specs.Tree.{Group, Walk, walked, node, build, ordered, Line, Before, sooner, larger, Flips, total, Matrix, column, answer, Sound, ComesTo, Components, made, weighedFlips, Clade, Filled, group, single, NestedOrDisjoint, RootedTree, Fits}
 use Rattle.method.specs.Flow.{Flow, arcs, limits, FlowSearch, SplitPromise}
 use Rattle.method.proofs.Flips.{Proper}
 use Rattle.method.proofs.Listing.{side-rule}
@@ -21,7 +21,7 @@ use Rattle.method.proofs.Depth.{build-node}
 use Rattle.method.proofs.Walks.{cost-≤, build-tame, flips-total, total-bound}
 use Rattle.method.proofs.Shape.{shape-in, line-map, lined-pair, build-shape}
 use Rattle.method.proofs.Filling.{fills-same, clade-more, or-more, filled}
-use Rattle.method.proofs.Fitting.{clades-tree, fits-free, free-fits}
+use Rattle.method.proofs.Fitting.{clades-laminar, fits-free, free-fits}
 use Rattle.method.proofs.Order.{build-length, ordered-in, in-ordered, ordered-length, ordered-total, ordered-first, group-low, file-order}
 use Rattle.method.proofs.Components.{split-components}
 use Rattle.method.proofs.Comes.{comes-fits, split-of, comes-listed, listed-comes, comes-one, flip-first, flip-once}
@@ -203,22 +203,43 @@ module _ (M : Matrix) (ok : Sound M) where
   flips-are-made = let t = build-tame 64 m file (all n) fits in flips-made file (walk .columns) m (t .propers proper) (t .knowns)
 
   -- After the flips each column can be filled so that its 1-set is empty or a clade: a group of the answer or a single taxon.
-  pub answer-filled : (c : ℕ) → c < m → Filled (Clade (answer M .groups)) (all n) (made (answer M .flips) file c)
+  pub answer-filled : (c : ℕ) → c < m → Filled (Clade (all n) (answer M .groups)) (all n) (made (answer M .flips) file c)
   answer-filled c b =
       let (F, d, r, f) = filled 64 m file (all n) fits proper c b in
-      (F, or-more (λ g l. in-walk l) d, r, fills-same (λ i x. same-sym (flips-are-made c i b)) f)
+      (F, or-more (⊆-refl (all n)) (λ g l. in-walk l) d, r, fills-same (λ i x. same-sym (flips-are-made c i b)) f)
 
-  pub answer-tree : RootedTree (Clade (answer M .groups))
-  answer-tree = record { pair = λ x y. clades-tree 64 (build-shape 64 m file (all n) fits .lined) .pair (clade-more (λ g l. walk-in l) x) (clade-more (λ g l. walk-in l) y) }
+  -- The clades are a rooted tree over the n taxa.
+  pub answer-tree : RootedTree (all n) (Clade (all n) (answer M .groups))
+  answer-tree =
+      record {
+        root = elim (decLt 1 n) [ yes two ↦ top two | no one ↦ let e : n ≡ 1 = omega (arith, ok .some) in single 0 (in-all n (ok .some)) (ap all e) ];
+        leaf = λ {i} x. single i x refl;
+        some = some;
+        inside = inside;
+        laminar = record {
+          pair = λ x y. clades-laminar 64 (all n) (build-shape 64 m file (all n) fits .lined) .pair (clade-more (⊆-refl (all n)) (λ g l. walk-in l) x) (clade-more (⊆-refl (all n)) (λ g l. walk-in l) y);
+        };
+      }
+    where
+      top : 1 < n → Clade (all n) (answer M .groups) (all n)
+      top two = let (rest, e) = groups-first two in group (split-of 64 m file (all n)) (subst (λ (gs : List Group). List·Memᴰ (split-of 64 m file (all n)) gs) (sym e) (List·Memᴰ·head refl)) refl
+
+      some : {Y : ℕ} → Clade (all n) (answer M .groups) Y → 0 < Y
+      some (group g l e) = omega (arith, e, count-pos 64 {x = g .taxa} (omega (arith, groups-hold l .1)))
+      some (single i x e) = omega (arith, e, in-pos (in-pow i))
+
+      inside : {Y : ℕ} → Clade (all n) (answer M .groups) Y → Y ⊆ all n
+      inside (group g l e) = subst (λ (Y : ℕ). Y ⊆ all n) (sym e) (groups-hold l .0)
+      inside (single i x e) = subst (λ (Y : ℕ). Y ⊆ all n) (sym e) (pow-⊆ x)
 
   -- The flip list is empty where some rooted tree fits the unflipped matrix, and only there: then the answer's does.
   no-cost : answer M .flips ≡ [] → total (walk .groups) ≡ 0
   unfolding weighedFlips
   no-cost e = sym all-costs ∙ total-flips ∙ ap (weighedFlips 64 file) e
 
-  pub fits-no-flips : {clade : ℕ → Type 0} → RootedTree clade → Fits clade m (all n) file → answer M .flips ≡ []
+  pub fits-no-flips : {clade : ℕ → Type 0} → RootedTree (all n) clade → Fits clade m (all n) file → answer M .flips ≡ []
   unfolding answer
-  fits-no-flips t f = flips-none file (walk .columns) m proper (λ c i b. build-tame 64 m file (all n) fits .calm heavy (fits-free 64 m t file (all n) fits heavy f) c i b)
+  fits-no-flips t f = flips-none file (walk .columns) m proper (λ c i b. build-tame 64 m file (all n) fits .calm heavy (fits-free 64 m (t .laminar) file (all n) fits heavy f) c i b)
 
-  pub no-flips-fits : answer M .flips ≡ [] → RootedTree (Clade (answer M .groups)) × Fits (Clade (answer M .groups)) m (all n) file
-  no-flips-fits e = (answer-tree, λ c b. let (F, d, r, f) = free-fits 64 m file (all n) fits heavy proper (no-cost e) c b in (F, or-more (λ g l. in-walk l) d, r, f))
+  pub no-flips-fits : answer M .flips ≡ [] → RootedTree (all n) (Clade (all n) (answer M .groups)) × Fits (Clade (all n) (answer M .groups)) m (all n) file
+  no-flips-fits e = (answer-tree, λ c b. let (F, d, r, f) = free-fits 64 m file (all n) fits heavy proper (no-cost e) c b in (F, or-more (⊆-refl (all n)) (λ g l. in-walk l) d, r, f))

@@ -174,10 +174,10 @@ unfoldable pub weighedFlips : ℕ → (ℕ → Column) → List Flips → ℕ
 weighedFlips k cols [] = 0
 weighedFlips k cols (f ∷ fs) = cols (f .column) .weight * (count k (f .raised) + count k (f .lowered)) + weighedFlips k cols fs
 
--- "A clade is a group or a single taxon."
-pub data Clade (gs : List Group) (X : ℕ) : Type 0 where
-  group : (g : Group) → List·Memᴰ g gs → X ≡ g .taxa → Clade gs X
-  single : (i : ℕ) → X ≡ 2 ^ i → Clade gs X
+-- "A clade is a group or a single taxon", of the taxa X.
+pub data Clade (X : ℕ) (gs : List Group) (Y : ℕ) : Type 0 where
+  group : (g : Group) → List·Memᴰ g gs → Y ≡ g .taxa → Clade X gs Y
+  single : (i : ℕ) → i ∈ X → Y ≡ 2 ^ i → Clade X gs Y
 
 -- A column's unknowns in X can be chosen so that its 1s in X are those of F.
 pub record Fills (X : ℕ) (c : Column) (F : ℕ) : Type 0 where
@@ -192,9 +192,17 @@ Filled clade X c = (F : ℕ) × (F ≡ 0 ⊎ clade F) × F ⊆ X × Fills X c F
 abbrev pub NestedOrDisjoint : ℕ → ℕ → Type 0
 NestedOrDisjoint X Y = X ⊆ Y ⊎ (Y ⊆ X ⊎ Disjoint X Y)
 
--- A rooted tree as its clades.
-pub record RootedTree (clade : ℕ → Type 0) : Type 0 where
-  pub pair : {X Y : ℕ} → clade X → clade Y → NestedOrDisjoint X Y
+-- Any two of a family of sets are so.
+pub record Laminar (family : ℕ → Type 0) : Type 0 where
+  pub pair : {X Y : ℕ} → family X → family Y → NestedOrDisjoint X Y
+
+-- A rooted tree over the taxa X, as its clades: the root is X, each taxon is a leaf, none is empty or has another taxon, any two are nested or disjoint.
+pub record RootedTree (X : ℕ) (clade : ℕ → Type 0) : Type 0 where
+  pub root : clade X
+  pub leaf : {i : ℕ} → i ∈ X → clade (2 ^ i)
+  pub some : {Y : ℕ} → clade Y → 0 < Y
+  pub inside : {Y : ℕ} → clade Y → Y ⊆ X
+  pub laminar : Laminar clade
 
 -- It fits m columns: each can be filled to the empty set or a clade of it.
 abbrev pub Fits : (ℕ → Type 0) → ℕ → ℕ → (ℕ → Column) → Type 0

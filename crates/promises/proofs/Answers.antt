@@ -38,8 +38,8 @@ use Rattle.promises.proofs.Bytes.{file-bytes}
 
 -- ---- lists of groups and flips, apart and together again
 
-groups-whole : (gs : List Group) (k : ℕ) → k ≤ length gs → lists.groupsOf (map (λ (g : Group). g .taxa) gs) (map (λ (g : Group). g .cost) gs) k ≡ take k gs
-unfolding lists.groupsOf
+groups-whole : (gs : List Group) (k : ℕ) → k ≤ length gs → lists.firstGroups (map (λ (g : Group). g .taxa) gs) (map (λ (g : Group). g .cost) gs) k ≡ take k gs
+unfolding lists.firstGroups
 groups-whole gs zero l = refl
 groups-whole gs (suc k) l =
     let none : Group = record { taxa = 0; cost = 0 } in
@@ -47,8 +47,8 @@ groups-whole gs (suc k) l =
     (sym (take-suc gs k none l))
 
 flips-whole : (fs : List Flips) (k : ℕ) → k ≤ length fs
-    → lists.flipsIn (map (λ (f : Flips). f .column) fs) (map (λ (f : Flips). f .raised) fs) (map (λ (f : Flips). f .lowered) fs) k ≡ take k fs
-unfolding lists.flipsIn
+    → lists.firstFlips (map (λ (f : Flips). f .column) fs) (map (λ (f : Flips). f .raised) fs) (map (λ (f : Flips). f .lowered) fs) k ≡ take k fs
+unfolding lists.firstFlips
 flips-whole fs zero l = refl
 flips-whole fs (suc k) l =
     let none : Flips = record { column = 0; raised = 0; lowered = 0 } in
@@ -158,14 +158,14 @@ module _ {file answerFile : List ℕ} (f : File file) (b : Leaves file answerFil
   unfolding contentFor
   groups-are =
       let gs = answer M .groups in
-      ap (λ (c : Content). lists.groupsOf (c .taxa) (c .costs) (c .groups)) answer-content
+      ap (λ (c : Content). lists.firstGroups (c .taxa) (c .costs) (c .groups)) answer-content
       ∙ groups-whole gs (length gs) (omega arith) ∙ take-length gs
 
   pub flips-are : flipsIn answerFile ≡ answer M .flips
   unfolding contentFor
   flips-are =
       let fs = answer M .flips in
-      ap (λ (c : Content). lists.flipsIn (c .columns) (c .raised) (c .lowered) (c .flips)) answer-content
+      ap (λ (c : Content). lists.firstFlips (c .columns) (c .raised) (c .lowered) (c .flips)) answer-content
       ∙ flips-whole fs (length fs) (omega arith) ∙ take-length fs
 
   pub total-is : totalIn answerFile ≡ answer M .total

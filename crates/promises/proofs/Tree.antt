@@ -85,10 +85,10 @@ module _ {file answerFile : List ℕ} (f : File file) (b : Leaves file answerFil
 
   -- ---- "After the flips the unknowns can be filled so that each column's 1-set is empty or a clade of the tree."
 
-  pub filled-to-clades : (c : ℕ) → c < many M → Filled (Clade gs) (known M) (made fs (columnsOf M) c)
+  pub filled-to-clades : (c : ℕ) → c < many M → Filled (Clade (known M) gs) (known M) (made fs (columnsOf M) c)
   filled-to-clades = rw (groups-are f b, flips-are f b) (method.answer-filled M (sound f b))
 
-  pub clades-are-a-tree : RootedTree (Clade gs)
+  pub clades-are-a-tree : RootedTree (known M) (Clade (known M) gs)
   clades-are-a-tree = rw (groups-are f b) (method.answer-tree M (sound f b))
 
   -- ---- "The flip list is empty exactly when the unfilled matrix fits some rooted tree that way unflipped."
@@ -98,4 +98,4 @@ module _ {file answerFile : List ℕ} (f : File file) (b : Leaves file answerFil
     where
       -- The answer's own tree.
       fits : fs ≡ [] → FitsSomeTree M
-      fits e = let (tree, each) = method.no-flips-fits M (sound f b) (sym (flips-are f b) ∙ e) in record { clade = Clade (answer M .groups); tree = tree; fits = each }
+      fits e = let (tree, each) = method.no-flips-fits M (sound f b) (sym (flips-are f b) ∙ e) in record { clade = Clade (known M) (answer M .groups); tree = tree; fits = each }

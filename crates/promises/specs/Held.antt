@@ -43,11 +43,11 @@ pub record Leaves (file answer : List ℕ) : Type 0 where
 
 -- The groups of an answer file, each with its split cost.
 abbrev pub groupsIn : List ℕ → List Group
-groupsIn answer = let c = contentIn answer in lists.groupsOf (c .taxa) (c .costs) (c .groups)
+groupsIn answer = let c = contentIn answer in lists.firstGroups (c .taxa) (c .costs) (c .groups)
 
 -- Its flips.
 abbrev pub flipsIn : List ℕ → List Flips
-flipsIn answer = let c = contentIn answer in lists.flipsIn (c .columns) (c .raised) (c .lowered) (c .flips)
+flipsIn answer = let c = contentIn answer in lists.firstFlips (c .columns) (c .raised) (c .lowered) (c .flips)
 
 -- Its total.
 abbrev pub totalIn : List ℕ → ℕ
@@ -70,5 +70,5 @@ known M = all (M .taxa)
 -- "The unfilled matrix fits some rooted tree that way unflipped": its unknowns can be filled so that each column's 1-set is empty or a clade of it.
 pub record FitsSomeTree (M : Matrix) : Type 1 where
   pub clade : ℕ → Type 0
-  pub tree : RootedTree clade
+  pub tree : RootedTree (known M) clade
   pub fits : Fits clade (many M) (known M) (columnsOf M)

@@ -27,7 +27,7 @@ use Rattle.matrix.specs.Matrix.{columnIn}
 use Rattle.matrix.specs.Check.{checked}
 use Rattle.matrix.proofs.Places.{refusal-small}
 use Rattle.matrix.proofs.Taken.{taken-legal, taken-columns}
-use Rattle.answer.specs.Content.{contentIn, groupsIn, flipsIn}
+use Rattle.answer.specs.Content.{contentIn, groupCount, flipCount}
 use Rattle.answer.specs.Rules.{headFault, counted, groupFault, placed, compatibleAll, entryFault, kept, sumOf}
 use Rattle.answer.specs.Tests.{judge, inFile, walk, headTest, groupTest, entryTest, endTest, tests}
 use Rattle.answer.specs.Reading.{fileTests}
@@ -86,13 +86,13 @@ module _ (file : List ℕ) where
   unfolding headTest
   head-by = met-by records.answerHead _ (record { at = 0 }) (head-few _ _ _ _ _)
 
-  groups-by : (first : Cursor) → By Few (first .at + 16 * groupsIn file) (groupsOf file first)
+  groups-by : (first : Cursor) → By Few (first .at + 16 * groupCount file) (groupsOf file first)
   unfolding groupTest
-  groups-by first = walk-by _ 16 (λ i here. met-by records.group _ here (group-few _ _ i)) (groupsIn file) first
+  groups-by first = walk-by _ 16 (λ i here. met-by records.group _ here (group-few _ _ i)) (groupCount file) first
 
-  flips-by : (first : Cursor) → By Few (first .at + 22 * flipsIn file) (flipsOf file first)
+  flips-by : (first : Cursor) → By Few (first .at + 22 * flipCount file) (flipsOf file first)
   unfolding entryTest
-  flips-by first = walk-by _ 22 (λ j here. met-by records.flips _ here (entry-few _ _ _ _ _ _)) (flipsIn file) first
+  flips-by first = walk-by _ 22 (λ j here. met-by records.flips _ here (entry-few _ _ _ _ _ _)) (flipCount file) first
 
   end-by : (here : Cursor) → By Few (here .at + 4) (endOf file here)
   unfolding endTest
@@ -104,22 +104,22 @@ module _ (file : List ℕ) where
   abbrev largest : ℕ
   largest = 6660
 
-  tests-by : By Few largest (tests (inFile file) (contentIn file) (flipsIn file))
+  tests-by : By Few largest (tests (inFile file) (contentIn file) (flipCount file))
   unfolding tests
   tests-by =
       by-onward Few largest (headOf file) _ (by-later Few 16 largest (lit≤ tt) (headOf file) head-by) (λ first h.
       let (kept, at, long) = head-leads file h in
-      by-onward Few largest (groupsOf file first) _ (by-later Few (first .at + 16 * groupsIn file) largest (omega (arith, at, kept .few, kept .fewer)) (groupsOf file first) (groups-by first)) (λ flips g.
-      let near : flips .at ≤ first .at + 16 * groupsIn file = rw (← g) at (groups-by first) in
-      let few : flips .at + 22 * flipsIn file + 4 ≤ largest = omega (arith, near, at, kept .few, kept .fewer, kept .flips-fit, kept .columns) in
-      by-onward Few largest (flipsOf file flips) (endOf file) (by-later Few (flips .at + 22 * flipsIn file) largest (omega (arith, few)) (flipsOf file flips) (flips-by flips)) (λ end f.
-      let near₂ : end .at ≤ flips .at + 22 * flipsIn file = rw (← f) at (flips-by flips) in
+      by-onward Few largest (groupsOf file first) _ (by-later Few (first .at + 16 * groupCount file) largest (omega (arith, at, kept .few, kept .fewer)) (groupsOf file first) (groups-by first)) (λ flips g.
+      let near : flips .at ≤ first .at + 16 * groupCount file = rw (← g) at (groups-by first) in
+      let few : flips .at + 22 * flipCount file + 4 ≤ largest = omega (arith, near, at, kept .few, kept .fewer, kept .flips-fit, kept .columns) in
+      by-onward Few largest (flipsOf file flips) (endOf file) (by-later Few (flips .at + 22 * flipCount file) largest (omega (arith, few)) (flipsOf file flips) (flips-by flips)) (λ end f.
+      let near₂ : end .at ≤ flips .at + 22 * flipCount file = rw (← f) at (flips-by flips) in
       by-later Few (end .at + 4) largest (omega (arith, near₂, few)) (endOf file end) (end-by end))))
 
   pub answer-by : By Few largest (fileTests file)
   unfolding fileTests nothingAfter
   answer-by =
-      by-onward Few largest (tests (inFile file) (contentIn file) (flipsIn file)) _ tests-by (λ c e.
+      by-onward Few largest (tests (inFile file) (contentIn file) (flipCount file)) _ tests-by (λ c e.
       let near : c .at ≤ largest = rw (← e) at tests-by in
       either-way (By Few largest) (ltb 0 (left file (c .at))) (near, lit≤ tt) near)
 

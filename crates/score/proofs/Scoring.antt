@@ -15,7 +15,7 @@ use Rattle.matrix.specs.declared.Checked.the-variants as checks
 use Rattle.matrix.specs.Matrix.{columnIn}
 use Rattle.matrix.specs.Check.{checked}
 use Rattle.answer.specs.declared.Answer.{Answer}
-use Rattle.answer.specs.Content.{contentIn, groupsIn, taxaIn, padded, answerOf}
+use Rattle.answer.specs.Content.{contentIn, groupCount, taxaIn, padded, answerOf}
 use Rattle.answer.specs.Reading.{fileTests}
 use Rattle.answer.proofs.Runs.{at-front}
 use Rattle.answer.proofs.Walks.{length-taxa}
@@ -41,15 +41,15 @@ padded-node file n k i c =
     at-front (taxaIn file k) (replicate 63 0) j (omega (arith, length-taxa file k))) i
 
 -- The places of the value hold all groups.
-pub groups-placed : (answer : List ℕ) {a : Answer} → a ≡ answerOf (contentIn answer) → groupsIn answer ≤ 63 → a .groups ≤ length (a .taxa)
+pub groups-placed : (answer : List ℕ) {a : Answer} → a ≡ answerOf (contentIn answer) → groupCount answer ≤ 63 → a .groups ≤ length (a .taxa)
 groups-placed answer e l =
-    let k = length-taxa answer (groupsIn answer) in
+    let k = length-taxa answer (groupCount answer) in
     let zeros : List ℕ = replicate 63 0 in
     let r : length zeros ≡ 63 = refl in
-    rw e (omega (arith, length-over (taxaIn answer (groupsIn answer)) 0 zeros (omega (arith, k, r)), r))
+    rw e (omega (arith, length-over (taxaIn answer (groupCount answer)) 0 zeros (omega (arith, k, r)), r))
 
 same-node : (answer : List ℕ) (n : ℕ) {a : Answer} → a ≡ answerOf (contentIn answer) → a .n ≡ n → nodeFor n (a .taxa) (a .groups) ≡ nodeIn answer
-same-node answer n value e = rw (← e, value) (padded-node answer (contentIn answer .n) (groupsIn answer))
+same-node answer n value e = rw (← e, value) (padded-node answer (contentIn answer .n) (groupCount answer))
 
 -- ---- two files that were read
 

@@ -23,7 +23,7 @@ use Rattle.method.proofs.Network.{network-cost}
 use Rattle.search.specs.Workspace.{outs, inns, cleared}
 use Rattle.search.specs.Network.{nth, caps, Net}
 use Rattle.search.specs.Flows.{Side, Largest}
-use Rattle.search.specs.Search.{colsOf, Given, capsOf, throughOf, Divided}
+use Rattle.search.specs.Search.{colsOf, Given, capsOf, throughOf, DividedByFlow}
 use Rattle.search.specs.Trying.{Joins, Limits, costs, Parts, Tried}
 use Rattle.method.proofs.Carry.{same?}
 use Rattle.search.proofs.Reaching.{in-caps, off-none}
@@ -261,7 +261,7 @@ module _ {W O Z : List ℕ} {S n m : ℕ} (g : Given W O Z S n m) {J L : List �
       inner = λ D v h f. record { sub = λ {i} x. record { is = cut bs d .1 .smallest (has D) (v .lowest .is) (out (in∖ S D .0 h .1)) (cost-is D (v .inside) ∙ f ∙ sym is-cost ∙ cut bs d .0) i (below n (g .group) (inner .sub x)) (x .is) } };
     }
 
-    pub divided : Divided W O Z S n m ws k′ b A
+    pub divided : DividedByFlow W O Z S n m ws k′ b A
     divided =
         let q = search-side n m (colsOf W O Z) S (g .group) (g .two) found in
         record {
@@ -274,7 +274,7 @@ module _ {W O Z : List ℕ} {S n m : ℕ} (g : Given W O Z S n m) {J L : List �
 
   -- The same where no flow is needed: b is the lowest taxon of S that hops do not reach past none.
   pub divided-free : (ws : List ℤ) {ws′ : List ℤ} {s A off b : ℕ} → Net W J L n m → n * m ≤ length ws → s ≡ low n S → Side W J L n m ws′ s A → ws′ ≡ cleared (n * m) ws → off ≡ S ∖ A → b ≡ low 64 off → b ∈ off
-      → Divided W O Z S n m ws′ 0 b A
+      → DividedByFlow W O Z S n m ws′ 0 b A
   divided-free ws {ws′} {s} {A} {off} {b} z places e d q o u h = rw q (divided (tried-free S z ws places bs d′ bb (p .0 .is) (out (p .1)) lo) (free-stands S z ws places bs d′ bb (p .0 .is) (out (p .1)) lo))
     where
       d′ : Side W J L n m (cleared (n * m) ws) (low n S) A

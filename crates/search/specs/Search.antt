@@ -37,7 +37,7 @@ module _ (W O Z : List ℕ) (S n m : ℕ) where
 
   -- "before it is cleared, the workspace holds a flow of the division's cost from s to t, and side A is the taxa still reachable from s past that
   -- flow"; and cost, A and t are what listing every division gives.
-  pub record Divided (ws : List ℤ) (k t A : ℕ) : Type 0 where
+  pub record DividedByFlow (ws : List ℤ) (k t A : ℕ) : Type 0 where
     pub flow : Flow n m capsOf throughOf (outs ws n) (inns ws n) (low n S) t k
     pub reached : (i : ℕ) → i < n → has A i ≡ true ↔ Reach n m capsOf throughOf (outs ws n) (inns ws n) (low n S) i
     pub is-side : A ≡ side n m (colsOf W O Z) S

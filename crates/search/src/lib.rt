@@ -14,7 +14,7 @@ ghost use Rattle.taxa.specs.Sets.{count, low};
 ghost use Rattle.search.specs.Workspace.{cleared, Kept};
 ghost use Rattle.search.specs.Network.{Net};
 ghost use Rattle.search.specs.Flows.{Side};
-ghost use Rattle.search.specs.Search.{Given, Divided};
+ghost use Rattle.search.specs.Search.{Given, DividedByFlow};
 ghost use Rattle.search.specs.Trying.{Joins, Limits, Tried};
 
 // x, unless z is 0.
@@ -167,7 +167,7 @@ pub fn divide(
 ) -> Split
     requires { ⌜ Given (now weights) (now ones) (now zeros) group n m × (n * m ≤ length (now ws)) ⌝ }
     ensures { λ r. ⌜
-        Divided (now (weights .entry)) (now (ones .entry)) (now (zeros .entry)) group n m (now (ws .exit)) (r .cost) (r .other) (r .side)
+        DividedByFlow (now (weights .entry)) (now (ones .entry)) (now (zeros .entry)) group n m (now (ws .exit)) (r .cost) (r .other) (r .side)
         × Kept (n * m) (now (ws .entry)) (now (ws .exit)) ⌝ }
 {
     let joined = joined_of(ones, zeros, group, m);

@@ -15,7 +15,7 @@ use Rattle.record.specs.Bytes.{File}
 use Rattle.record.specs.Records.{refused}
 use Rattle.record.specs.declared.Refusal.{Refusal}
 use Rattle.matrix.specs.declared.Checked.{Checked}
-use Rattle.matrix.specs.declared.Checked.the-variants as checked
+use Rattle.matrix.specs.declared.Checked.the-variants as checks
 use Rattle.matrix.specs.Check.{checked}
 use Rattle.method.specs.Split.{Column, side, splitCost, parted}
 use Rattle.method.specs.Tree.{column}
@@ -31,14 +31,14 @@ use Rattle.split.proofs.Soundness.{taken-count, taken-known, few-taxa, 
 -- ---- the rows of the table
 
 module _ (n m : ℕ) (file : List ℕ) (S room : ℕ) where
-  no-group : noGroup n S ≡ true → Refused (refused 11 0) ≡ answered (checked.Taken n m) file S room
+  no-group : noGroup n S ≡ true → Refused (refused 11 0) ≡ answered (checks.Taken n m) file S room
   unfolding answered
   no-group e = rw e
 
-  pub one-taxon : count 64 S < 2 → Refused (refused 11 0) ≡ answered (checked.Taken n m) file S room
+  pub one-taxon : count 64 S < 2 → Refused (refused 11 0) ≡ answered (checks.Taken n m) file S room
   one-taxon l = no-group (rw (lt-ltb (count 64 S) 2 l))
 
-  pub unknown-taxon : within S (all n) ≡ false → Refused (refused 11 0) ≡ answered (checked.Taken n m) file S room
+  pub unknown-taxon : within S (all n) ≡ false → Refused (refused 11 0) ≡ answered (checks.Taken n m) file S room
   unknown-taxon e = no-group (rw e (either (ltb (count 64 S) 2)))
     where
       either : (p : Bool) → (p || true) ≡ true
@@ -48,11 +48,11 @@ module _ (n m : ℕ) (file : List ℕ) (S room : ℕ) where
   a-group : 2 ≤ count 64 S → within S (all n) ≡ true → noGroup n S ≡ false
   a-group two known = rw (le-ltb (count 64 S) 2 two, known)
 
-  pub no-room : 2 ≤ count 64 S → within S (all n) ≡ true → room < n * m → Refused (refused 9 0) ≡ answered (checked.Taken n m) file S room
+  pub no-room : 2 ≤ count 64 S → within S (all n) ≡ true → room < n * m → Refused (refused 9 0) ≡ answered (checks.Taken n m) file S room
   unfolding answered
   no-room two known l = rw (a-group two known, lt-ltb room (n * m) l)
 
-  pub all-tested : Splittable file S n m room → splitOf (matrixIn file) S ≡ answered (checked.Taken n m) file S room
+  pub all-tested : Splittable file S n m room → splitOf (matrixIn file) S ≡ answered (checks.Taken n m) file S room
   unfolding answered
   all-tested s = rw (a-group (s .two) (within-⊆ S (all n) .1 (s .known)), le-ltb room (n * m) (s .long))
 
@@ -90,7 +90,7 @@ module _ {file : List ℕ} {S n m room : ℕ} (f : File file) (s : Splittable fi
 
 -- ---- what is left of the workspace
 
-pub cleared-after : {file : List ℕ} {n m : ℕ} → File file → checked.Taken n m ≡ checked file → (S : ℕ) (ws : List ℤ) {r : Answer} → r ≡ splitOf (matrixIn file) S
+pub cleared-after : {file : List ℕ} {n m : ℕ} → File file → checks.Taken n m ≡ checked file → (S : ℕ) (ws : List ℤ) {r : Answer} → r ≡ splitOf (matrixIn file) S
     → cleared (n * m) ws ≡ workspaceAfter file r ws
 unfolding workspaceAfter splitOf
 cleared-after f taken S ws e = rw e (ap₂ (λ (n m : ℕ). cleared (n * m) ws) (sym (taken-known f taken)) (sym (taken-count f taken)))
@@ -102,7 +102,7 @@ left-alone file why ws = refl
 -- ---- the whole answer
 
 module _ (file : List ℕ) (S room : ℕ) where
-  pub file-refused : (why : Refusal) → Refused why ≡ answered (checked.Refused why) file S room
+  pub file-refused : (why : Refusal) → Refused why ≡ answered (checks.Refused why) file S room
   unfolding answered
   file-refused why = refl
 

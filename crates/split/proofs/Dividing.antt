@@ -11,13 +11,13 @@ use Rattle.taxa.proofs.Members.{low-bound}
 use Rattle.method.specs.Split.{Column, side, parted, divisionCost, flipped, parts}
 use Rattle.method.proofs.Listing.{side-rule}
 use Rattle.method.proofs.Width.{cost-width, side-width, parted-width}
-use Rattle.search.specs.Search.{colsOf, Given, Divided}
+use Rattle.search.specs.Search.{colsOf, Given, DividedByFlow}
 use Rattle.split.specs.Columns.{Parallel}
 use Rattle.split.specs.Parts.{Listed}
 use Rattle.split.specs.Groups.{IsSplit, HandsOn}
 
 module _ {ws os zs : List ℕ} {S n m : ℕ} (g : Given ws os zs S n m) where
-  pub found-split : {flows : List ℤ} {cost t A : ℕ} → Divided ws os zs S n m flows cost t A → IsSplit m (colsOf ws os zs) S cost A t
+  pub found-split : {flows : List ℤ} {cost t A : ℕ} → DividedByFlow ws os zs S n m flows cost t A → IsSplit m (colsOf ws os zs) S cost A t
   found-split {A = A} d = record {
     is-cost = d .is-cost ∙ cost-width (g .taxa) (g .group) m cols inside ∙ ap (divisionCost 64 m cols S) same;
     is-side = same;

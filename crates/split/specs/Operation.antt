@@ -9,7 +9,7 @@ use lib.ListN.{length}
 use Rattle.taxa.specs.Sets.{_⊆_, within, count, all}
 use Rattle.record.specs.Records.{refused}
 use Rattle.matrix.specs.declared.Checked.{Checked}
-use Rattle.matrix.specs.declared.Checked.the-variants as checked
+use Rattle.matrix.specs.declared.Checked.the-variants as checks
 use Rattle.matrix.specs.Check.{checked}
 use Rattle.method.specs.Split.{side, splitCost, parted}
 use Rattle.method.specs.Tree.{Matrix, column}
@@ -31,8 +31,8 @@ noGroup n S = ltb (count 64 S) 2 || not (within S (all n))
 
 -- "The file's refusals come first, then 11, 9", the last two at 0; `room` is the workspace's length.
 unfoldable pub answered : Checked → List ℕ → ℕ → ℕ → Divided
-answered (checked.Refused why) file S room = Refused why
-answered (checked.Taken n m) file S room =
+answered (checks.Refused why) file S room = Refused why
+answered (checks.Taken n m) file S room =
     cond (noGroup n S) (Refused (refused 11 0))
     (cond (ltb room (n * m)) (Refused (refused 9 0))
     (splitOf (matrixIn file) S))
@@ -66,7 +66,7 @@ splitNumbers file S room = returned (divided file S room)
 
 -- What has been tested where nothing is refused.
 pub record Splittable (file : List ℕ) (S n m room : ℕ) : Type 0 where
-  pub taken : checked.Taken n m ≡ checked file
+  pub taken : checks.Taken n m ≡ checked file
   pub two : 2 ≤ count 64 S
   pub known : S ⊆ all n
   pub long : n * m ≤ room

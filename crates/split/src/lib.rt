@@ -11,7 +11,7 @@ ghost use mathlib.Core.Path.{_≡_};
 ghost use Prim.Native.Nat.{_*_};
 ghost use lib.ListN.{length};
 ghost use Rattle.matrix.specs.Check.{checked};
-ghost use Rattle.matrix.specs.declared.Checked.the-variants as checked;
+ghost use Rattle.matrix.specs.declared.Checked.the-variants as checks;
 ghost use Rattle.search.specs.Workspace.{cleared};
 ghost use Rattle.split.specs.Columns.{Parallel, matrixIn};
 ghost use Rattle.split.specs.Operation.{Splittable, splitOf, answered, divided, workspaceAfter, returned, splitNumbers};
@@ -46,9 +46,9 @@ fn split_loaded(
 
 // A matrix that is taken: the refusals of the group and of the workspace, and else the division.
 fn split_matrix(file: &[u8], group: u64, n: usize, m: usize, workspace: &mut [i32]) -> Divided
-    requires { ⌜ checked.Taken n m ≡ checked (now file) ⌝ }
+    requires { ⌜ checks.Taken n m ≡ checked (now file) ⌝ }
     ensures { λ r. ⌜
-        (r ≡ answered (checked.Taken n m) (now (file .entry)) group (length (now (workspace .entry))))
+        (r ≡ answered (checks.Taken n m) (now (file .entry)) group (length (now (workspace .entry))))
         × (now (workspace .exit) ≡ workspaceAfter (now (file .entry)) r (now (workspace .entry))) ⌝ }
 {
     if taxa::size(group) < 2 {

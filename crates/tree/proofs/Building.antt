@@ -32,7 +32,7 @@ use Rattle.split.specs.Columns.{Parallel, matrixIn}
 use Rattle.split.proofs.Soundness.{taken-count, taken-known, few-taxa, few-columns, taken-sound}
 use Rattle.tree.specs.declared.Built.{Built}
 use Rattle.tree.specs.declared.Built.the-variants.{Refused}
-use Rattle.tree.specs.Lists.{groupsOf, Room, entries}
+use Rattle.tree.specs.Lists.{firstGroups, Room, unweighed}
 use Rattle.tree.specs.Grow.{Ready, Grown, Walked, Answers}
 use Rattle.tree.specs.Build.{contentWith, contentFor, roomFor, takenOf, Buildable, answered, built, outputAfter, workspaceAfter, returned, buildNumbers}
 use Rattle.tree.proofs.Rules.{answer-passes, answer-fits, flips-few}
@@ -42,7 +42,7 @@ pub cleared-twice : (k : ℕ) (ws : List ℤ) → cleared k (cleared k ws) ≡ c
 cleared-twice k ws = ap (_++_ (replicate k (pos 0))) (drop-at (replicate k (pos 0)) (drop k ws) k (length-replicate k (pos 0)))
 
 -- The flip list asks for no weight.
-same-flips : (m : ℕ) (ws ws′ os zs os′ zs′ : List ℕ) → flipList m (entries os zs) (entries os′ zs′) ≡ flipList m (colsOf ws os zs) (colsOf ws′ os′ zs′)
+same-flips : (m : ℕ) (ws ws′ os zs os′ zs′ : List ℕ) → flipList m (unweighed os zs) (unweighed os′ zs′) ≡ flipList m (colsOf ws os zs) (colsOf ws′ os′ zs′)
 unfolding flipList colsOf
 same-flips zero ws ws′ os zs os′ zs′ = refl
 same-flips (suc m) ws ws′ os zs os′ zs′ = rw (same-flips m ws ws′ os zs os′ zs′)
@@ -87,22 +87,22 @@ module _ {file : List ℕ} {n m space room : ℕ} (f : File file) (b : Buildable
   -- ---- what it comes to
 
   module _ (ws os zs ws′ os′ zs′ os″ zs″ ts cs ts′ cs′ : List ℕ) {clear clear′ : List ℤ} (S k : ℕ) (before : colsOf ws os zs ≡ file-columns) (start : colsOf ws′ os′ zs′ ≡ file-columns)
-      (sized : length ws′ ≡ m) (whole : S ≡ all n) (g : Grown ws′ os″ zs″ clear clear′ (build 64 (length ws′) (colsOf ws′ os′ zs′) S) (groupsOf ts cs 0) (groupsOf ts′ cs′ k) 0 k) where
-    walked-groups : groupsOf ts′ cs′ k ≡ build 64 (length (M .columns)) file-columns (all (M .taxa)) .groups
-    unfolding groupsOf
+      (sized : length ws′ ≡ m) (whole : S ≡ all n) (g : Grown ws′ os″ zs″ clear clear′ (build 64 (length ws′) (colsOf ws′ os′ zs′) S) (firstGroups ts cs 0) (firstGroups ts′ cs′ k) 0 k) where
+    walked-groups : firstGroups ts′ cs′ k ≡ build 64 (length (M .columns)) file-columns (all (M .taxa)) .groups
+    unfolding firstGroups
     walked-groups = g .groups ∙ rw (sized, start, whole, taken-count f (b .taken), taken-known f (b .taken))
 
-    groups-are : ordered 64 n (groupsOf ts′ cs′ k) ≡ answer M .groups
+    groups-are : ordered 64 n (firstGroups ts′ cs′ k) ≡ answer M .groups
     unfolding answer
     groups-are = rw (walked-groups, taken-known f (b .taken))
 
-    flips-are : flipList m (entries os zs) (entries os″ zs″) ≡ answer M .flips
+    flips-are : flipList m (unweighed os zs) (unweighed os″ zs″) ≡ answer M .flips
     unfolding answer
     flips-are =
         same-flips m ws ws′ os zs os″ zs″
         ∙ rw (before, g .columns, sized, start, whole, taken-count f (b .taken), taken-known f (b .taken))
 
-    pub built-content : contentWith n m (ordered 64 n (groupsOf ts′ cs′ k)) (flipList m (entries os zs) (entries os″ zs″)) ≡ contentFor M
+    pub built-content : contentWith n m (ordered 64 n (firstGroups ts′ cs′ k)) (flipList m (unweighed os zs) (unweighed os″ zs″)) ≡ contentFor M
     unfolding contentFor
     built-content = rw (groups-are, flips-are, taken-count f (b .taken), taken-known f (b .taken))
 

@@ -14,7 +14,7 @@ use Rattle.taxa.specs.Sets.{_∩_}
 use Rattle.method.specs.Split.{Column}
 use Rattle.method.specs.Tree.{Group, Flips, kept, ordered, flipsOf, flipList, total}
 use Rattle.method.proofs.Walks.{total-++}
-use Rattle.tree.specs.Lists.{groupsOf, startsAt, flipsIn, FlipRoom, unflipped}
+use Rattle.tree.specs.Lists.{firstGroups, startsAt, firstFlips, FlipRoom, unflipped}
 
 -- ---- elements by their number
 
@@ -25,42 +25,42 @@ getD-in d (x ∷ xs) (suc i) b = List·Memᴰ·tail (getD-in d xs i (omega arith
 
 -- ---- groups
 
-pub groups-next : (ts cs : List ℕ) (k : ℕ) → groupsOf ts cs (k + 1) ≡ groupsOf ts cs k ++ (record { taxa = getD ts k 0; cost = getD cs k 0 } ∷ [])
-unfolding groupsOf
+pub groups-next : (ts cs : List ℕ) (k : ℕ) → firstGroups ts cs (k + 1) ≡ firstGroups ts cs k ++ (record { taxa = getD ts k 0; cost = getD cs k 0 } ∷ [])
+unfolding firstGroups
 groups-next ts cs k = rw add-one
 
-pub length-groups : (ts cs : List ℕ) (k : ℕ) → length (groupsOf ts cs k) ≡ k
-unfolding groupsOf
+pub length-groups : (ts cs : List ℕ) (k : ℕ) → length (firstGroups ts cs k) ≡ k
+unfolding firstGroups
 length-groups ts cs zero = refl
-length-groups ts cs (suc k) = length-append (groupsOf ts cs k) _ ∙ omega (arith, length-groups ts cs k)
+length-groups ts cs (suc k) = length-append (firstGroups ts cs k) _ ∙ omega (arith, length-groups ts cs k)
 
 -- Stores past the first k change none of them.
-past-groups : (ts cs : List ℕ) (at g c k : ℕ) → k ≤ at → groupsOf (set ts at g) (set cs at c) k ≡ groupsOf ts cs k
-unfolding groupsOf
+past-groups : (ts cs : List ℕ) (at g c k : ℕ) → k ≤ at → firstGroups (set ts at g) (set cs at c) k ≡ firstGroups ts cs k
+unfolding firstGroups
 past-groups ts cs at g c zero l = refl
 past-groups ts cs at g c (suc k) l =
     rw (past-groups ts cs at g c k (omega arith), getD-set-other ts at k g 0 (omega arith), getD-set-other cs at k c 0 (omega arith))
 
 pub put-group : (ts cs : List ℕ) (at g c : ℕ) → at < length ts → at < length cs
-    → groupsOf (set ts at g) (set cs at c) (at + 1) ≡ groupsOf ts cs at ++ (record { taxa = g; cost = c } ∷ [])
+    → firstGroups (set ts at g) (set cs at c) (at + 1) ≡ firstGroups ts cs at ++ (record { taxa = g; cost = c } ∷ [])
 put-group ts cs at g c l l′ =
     rw (groups-next (set ts at g) (set cs at c) at, past-groups ts cs at g c at (omega arith), getD-set-same ts at g 0 l, getD-set-same cs at c 0 l′)
 
 -- Its sets and its costs apart, and the sum of the costs.
-pub taxa-of : (ts cs : List ℕ) (k : ℕ) → k ≤ length ts → take k ts ≡ map (λ (g : Group). g .taxa) (groupsOf ts cs k)
-unfolding groupsOf
+pub taxa-of : (ts cs : List ℕ) (k : ℕ) → k ≤ length ts → take k ts ≡ map (λ (g : Group). g .taxa) (firstGroups ts cs k)
+unfolding firstGroups
 taxa-of ts cs zero l = refl
 taxa-of ts cs (suc k) l = take-suc ts k 0 l ∙ rw (taxa-of ts cs k (omega arith), map-append)
 
-pub costs-of : (ts cs : List ℕ) (k : ℕ) → k ≤ length cs → take k cs ≡ map (λ (g : Group). g .cost) (groupsOf ts cs k)
-unfolding groupsOf
+pub costs-of : (ts cs : List ℕ) (k : ℕ) → k ≤ length cs → take k cs ≡ map (λ (g : Group). g .cost) (firstGroups ts cs k)
+unfolding firstGroups
 costs-of ts cs zero l = refl
 costs-of ts cs (suc k) l = take-suc cs k 0 l ∙ rw (costs-of ts cs k (omega arith), map-append)
 
-pub total-of : (ts cs : List ℕ) (k : ℕ) → total (groupsOf ts cs k) ≡ sum k (λ i. getD cs i 0)
-unfolding groupsOf sum total
+pub total-of : (ts cs : List ℕ) (k : ℕ) → total (firstGroups ts cs k) ≡ sum k (λ i. getD cs i 0)
+unfolding firstGroups sum total
 total-of ts cs zero = refl
-total-of ts cs (suc k) = omega (arith, total-++ (groupsOf ts cs k) (record { taxa = getD ts k 0; cost = getD cs k 0 } ∷ []), total-of ts cs k)
+total-of ts cs (suc k) = omega (arith, total-++ (firstGroups ts cs k) (record { taxa = getD ts k 0; cost = getD cs k 0 } ∷ []), total-of ts cs k)
 
 -- ---- what a test keeps
 
@@ -87,19 +87,19 @@ kept-++ p (x ∷ gs) g = go (p x) (kept-++ p gs g)
     go false ih = ih
 
 module _ (p : Group → Bool) (ts cs : List ℕ) where
-  pub kept-next : (k : ℕ) → kept p (groupsOf ts cs (k + 1)) ≡ kept p (groupsOf ts cs k) ++ cond (p (record { taxa = getD ts k 0; cost = getD cs k 0 })) (record { taxa = getD ts k 0; cost = getD cs k 0 } ∷ []) []
-  kept-next k = rw (groups-next ts cs k) (kept-++ p (groupsOf ts cs k) _)
+  pub kept-next : (k : ℕ) → kept p (firstGroups ts cs (k + 1)) ≡ kept p (firstGroups ts cs k) ++ cond (p (record { taxa = getD ts k 0; cost = getD cs k 0 })) (record { taxa = getD ts k 0; cost = getD cs k 0 } ∷ []) []
+  kept-next k = rw (groups-next ts cs k) (kept-++ p (firstGroups ts cs k) _)
 
-  pub kept-size : (k : ℕ) → length (kept p (groupsOf ts cs (k + 1))) ≡ length (kept p (groupsOf ts cs k)) + cond (p (record { taxa = getD ts k 0; cost = getD cs k 0 })) 1 0
-  kept-size k = rw (kept-next k, length-append) (ap (_+_ (length (kept p (groupsOf ts cs k)))) (length-cond (p (record { taxa = getD ts k 0; cost = getD cs k 0 })) _))
+  pub kept-size : (k : ℕ) → length (kept p (firstGroups ts cs (k + 1))) ≡ length (kept p (firstGroups ts cs k)) + cond (p (record { taxa = getD ts k 0; cost = getD cs k 0 })) 1 0
+  kept-size k = rw (kept-next k, length-append) (ap (_+_ (length (kept p (firstGroups ts cs k)))) (length-cond (p (record { taxa = getD ts k 0; cost = getD cs k 0 })) _))
 
-  pub kept-more : {j k : ℕ} → j ≤ k → length (kept p (groupsOf ts cs j)) ≤ length (kept p (groupsOf ts cs k))
+  pub kept-more : {j k : ℕ} → j ≤ k → length (kept p (firstGroups ts cs j)) ≤ length (kept p (firstGroups ts cs k))
   kept-more {j} {k} l =
-      le-ind (λ (i : ℕ). length (kept p (groupsOf ts cs j)) ≤ length (kept p (groupsOf ts cs i))) (omega arith)
+      le-ind (λ (i : ℕ). length (kept p (firstGroups ts cs j)) ≤ length (kept p (firstGroups ts cs i))) (omega arith)
       (λ i h ih. rw (← add-one i) (omega (arith, kept-size i))) k l
 
   -- One that is kept is among all that are.
-  pub kept-room : {j k : ℕ} → j < k → p (record { taxa = getD ts j 0; cost = getD cs j 0 }) ≡ true → length (kept p (groupsOf ts cs j)) < length (kept p (groupsOf ts cs k))
+  pub kept-room : {j k : ℕ} → j < k → p (record { taxa = getD ts j 0; cost = getD cs j 0 }) ≡ true → length (kept p (firstGroups ts cs j)) < length (kept p (firstGroups ts cs k))
   kept-room {j} {k} l e = let more = rw e at (kept-size j) in omega (arith, kept-more {j = j + 1} {k = k} (omega arith))
 
 -- ---- file order
@@ -118,23 +118,23 @@ ordered-more {j} {k} gs l =
 
 -- ---- flips
 
-pub flips-next : (ns us ds : List ℕ) (k : ℕ) → flipsIn ns us ds (k + 1) ≡ flipsIn ns us ds k ++ (record { column = getD ns k 0; raised = getD us k 0; lowered = getD ds k 0 } ∷ [])
-unfolding flipsIn
+pub flips-next : (ns us ds : List ℕ) (k : ℕ) → firstFlips ns us ds (k + 1) ≡ firstFlips ns us ds k ++ (record { column = getD ns k 0; raised = getD us k 0; lowered = getD ds k 0 } ∷ [])
+unfolding firstFlips
 flips-next ns us ds k = rw add-one
 
-pub length-flips : (ns us ds : List ℕ) (k : ℕ) → length (flipsIn ns us ds k) ≡ k
-unfolding flipsIn
+pub length-flips : (ns us ds : List ℕ) (k : ℕ) → length (firstFlips ns us ds k) ≡ k
+unfolding firstFlips
 length-flips ns us ds zero = refl
-length-flips ns us ds (suc k) = length-append (flipsIn ns us ds k) _ ∙ omega (arith, length-flips ns us ds k)
+length-flips ns us ds (suc k) = length-append (firstFlips ns us ds k) _ ∙ omega (arith, length-flips ns us ds k)
 
-past-flips : (ns us ds : List ℕ) (at n u d k : ℕ) → k ≤ at → flipsIn (set ns at n) (set us at u) (set ds at d) k ≡ flipsIn ns us ds k
-unfolding flipsIn
+past-flips : (ns us ds : List ℕ) (at n u d k : ℕ) → k ≤ at → firstFlips (set ns at n) (set us at u) (set ds at d) k ≡ firstFlips ns us ds k
+unfolding firstFlips
 past-flips ns us ds at n u d zero l = refl
 past-flips ns us ds at n u d (suc k) l =
     rw (past-flips ns us ds at n u d k (omega arith), getD-set-other ns at k n 0 (omega arith), getD-set-other us at k u 0 (omega arith), getD-set-other ds at k d 0 (omega arith))
 
 pub put-flips : (ns us ds : List ℕ) (at n u d : ℕ) → FlipRoom (at + 1) ns us ds
-    → flipsIn (set ns at n) (set us at u) (set ds at d) (at + 1) ≡ flipsIn ns us ds at ++ (record { column = n; raised = u; lowered = d } ∷ [])
+    → firstFlips (set ns at n) (set us at u) (set ds at d) (at + 1) ≡ firstFlips ns us ds at ++ (record { column = n; raised = u; lowered = d } ∷ [])
 put-flips ns us ds at n u d r =
     rw (
       flips-next (set ns at n) (set us at u) (set ds at d) at,
@@ -146,18 +146,18 @@ put-flips ns us ds at n u d r =
 
 -- Its columns, raised sets and lowered sets apart.
 module _ (ns us ds : List ℕ) where
-  pub columns-of : (k : ℕ) → k ≤ length ns → take k ns ≡ map (λ (f : Flips). f .column) (flipsIn ns us ds k)
-  unfolding flipsIn
+  pub columns-of : (k : ℕ) → k ≤ length ns → take k ns ≡ map (λ (f : Flips). f .column) (firstFlips ns us ds k)
+  unfolding firstFlips
   columns-of zero l = refl
   columns-of (suc k) l = take-suc ns k 0 l ∙ rw (columns-of k (omega arith), map-append)
 
-  pub raised-of : (k : ℕ) → k ≤ length us → take k us ≡ map (λ (f : Flips). f .raised) (flipsIn ns us ds k)
-  unfolding flipsIn
+  pub raised-of : (k : ℕ) → k ≤ length us → take k us ≡ map (λ (f : Flips). f .raised) (firstFlips ns us ds k)
+  unfolding firstFlips
   raised-of zero l = refl
   raised-of (suc k) l = take-suc us k 0 l ∙ rw (raised-of k (omega arith), map-append)
 
-  pub lowered-of : (k : ℕ) → k ≤ length ds → take k ds ≡ map (λ (f : Flips). f .lowered) (flipsIn ns us ds k)
-  unfolding flipsIn
+  pub lowered-of : (k : ℕ) → k ≤ length ds → take k ds ≡ map (λ (f : Flips). f .lowered) (firstFlips ns us ds k)
+  unfolding firstFlips
   lowered-of zero l = refl
   lowered-of (suc k) l = take-suc ds k 0 l ∙ rw (lowered-of k (omega arith), map-append)
 

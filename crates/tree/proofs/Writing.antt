@@ -8,13 +8,13 @@ use Rattle.answer.specs.declared.Written.{Written}
 use Rattle.answer.specs.Content.{Content, contentOf}
 use Rattle.answer.specs.Writing.{Writes}
 use Rattle.tree.specs.declared.Built.{Built}
-use Rattle.tree.specs.Lists.{groupsOf, Room, flipsIn, FlipRoom}
+use Rattle.tree.specs.Lists.{firstGroups, Room, firstFlips, FlipRoom}
 use Rattle.tree.specs.Build.{contentWith}
 use Rattle.tree.specs.Grow.{writtenAs, Answers}
 use Rattle.tree.proofs.Lists.{taxa-of, costs-of, columns-of, raised-of, lowered-of}
 
 module _ {ts cs ns us ds : List ℕ} {g f t : ℕ} {gs : List Group} {fs : List Flips} (n m : ℕ) where
-  pub content-is : Room g ts cs → g ≡ length gs → groupsOf ts cs g ≡ gs → FlipRoom f ns us ds → f ≡ length fs → flipsIn ns us ds f ≡ fs → t ≡ total gs
+  pub content-is : Room g ts cs → g ≡ length gs → firstGroups ts cs g ≡ gs → FlipRoom f ns us ds → f ≡ length fs → firstFlips ns us ds f ≡ fs → t ≡ total gs
       → contentOf (record { n = n; m = m; groups = g; flips = f; total = t; taxa = ts; costs = cs }) ns us ds ≡ contentWith n m gs fs
   content-is room many groups flip-room flips list sum = λ i. record {
     n = n;

@@ -15,7 +15,7 @@ use Rattle.search.specs.Search.{colsOf}
 use Rattle.split.specs.Columns.{Parallel}
 use Rattle.tree.specs.declared.Built.{Built}
 use Rattle.tree.specs.declared.Built.the-variants.{Taken, Refused}
-use Rattle.tree.specs.Lists.{groupsOf, Room}
+use Rattle.tree.specs.Lists.{firstGroups, Room}
 
 -- At most 256 columns in three lists, a group of taxa below n, and a workspace whose first n x m numbers are 0.
 pub record Ready (ws os zs : List ℕ) (S n : ℕ) (space : List ℤ) : Type 0 where
@@ -56,8 +56,8 @@ pub record Walked (os zs os′ zs′ : List ℕ) (n m : ℕ) (walked paid : List
   pub ones-after : m ≤ length os′
   pub zeros-after : m ≤ length zs′
   pub listed : Room k walked paid
-  pub few : length (ordered 64 n (groupsOf walked paid k)) ≤ 63
-  pub small : total (ordered 64 n (groupsOf walked paid k)) < 2 ^ 32
+  pub few : length (ordered 64 n (firstGroups walked paid k)) ≤ 63
+  pub small : total (ordered 64 n (firstGroups walked paid k)) < 2 ^ 32
 
 -- What writing a content answers, as the build's answer.
 abbrev pub writtenAs : Content → Written → Built

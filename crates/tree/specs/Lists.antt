@@ -9,9 +9,9 @@ use Rattle.method.specs.Split.{Column}
 use Rattle.method.specs.Tree.{Group, Flips}
 
 -- The first k groups of two lists.
-unfoldable pub groupsOf : List ℕ → List ℕ → ℕ → List Group
-groupsOf taxa costs zero = []
-groupsOf taxa costs (suc k) = groupsOf taxa costs k ++ (record { taxa = getD taxa k 0; cost = getD costs k 0 } ∷ [])
+unfoldable pub firstGroups : List ℕ → List ℕ → ℕ → List Group
+firstGroups taxa costs zero = []
+firstGroups taxa costs (suc k) = firstGroups taxa costs k ++ (record { taxa = getD taxa k 0; cost = getD costs k 0 } ∷ [])
 
 -- Two lists have room for k groups.
 pub record Room (k : ℕ) (taxa costs : List ℕ) : Type 0 where
@@ -23,10 +23,10 @@ abbrev pub startsAt : ℕ → Group → Bool
 startsAt i g = eqb (low 64 (g .taxa)) i
 
 -- The first k flips of three lists.
-unfoldable pub flipsIn : List ℕ → List ℕ → List ℕ → ℕ → List Flips
-flipsIn columns raised lowered zero = []
-flipsIn columns raised lowered (suc k) =
-    flipsIn columns raised lowered k ++ (record { column = getD columns k 0; raised = getD raised k 0; lowered = getD lowered k 0 } ∷ [])
+unfoldable pub firstFlips : List ℕ → List ℕ → List ℕ → ℕ → List Flips
+firstFlips columns raised lowered zero = []
+firstFlips columns raised lowered (suc k) =
+    firstFlips columns raised lowered k ++ (record { column = getD columns k 0; raised = getD raised k 0; lowered = getD lowered k 0 } ∷ [])
 
 -- Three lists have room for k flips.
 pub record FlipRoom (k : ℕ) (columns raised lowered : List ℕ) : Type 0 where
@@ -35,8 +35,8 @@ pub record FlipRoom (k : ℕ) (columns raised lowered : List ℕ) : Type 0 where
   pub lowered-room : k ≤ length lowered
 
 -- Columns by their 1-sets and 0-sets; the flip list asks for nothing else.
-abbrev pub entries : List ℕ → List ℕ → ℕ → Column
-entries ones zeros c = record { weight = 0; ones = getD ones c 0; zeros = getD zeros c 0 }
+abbrev pub unweighed : List ℕ → List ℕ → ℕ → Column
+unweighed ones zeros c = record { weight = 0; ones = getD ones c 0; zeros = getD zeros c 0 }
 
 -- Whether a column has no flip.
 abbrev pub unflipped : ℕ → ℕ → Bool

@@ -3,7 +3,7 @@
 ghost use Prim.Native.Nat.{_+_, _-_, _*_, _≤_, _<_};
 ghost use lib.ListN.{length, take};
 ghost use Rattle.taxa.specs.Sets.{count};
-ghost use Rattle.tree.specs.Lists.{groupsOf, Room};
+ghost use Rattle.tree.specs.Lists.{firstGroups, Room};
 ghost use Rattle.tree.specs.Grow.{Ready, Grown, AllSmall, walkFrom, walkOver};
 use super::order::put_group;
 use split::group::split_group;
@@ -26,7 +26,7 @@ pub fn grow(
     ensures { λ r. ⌜
         Grown (now (weights .entry)) (now (ones .exit)) (now (zeros .exit)) (now (ws .entry)) (now (ws .exit))
         (walkFrom (now (weights .entry)) (now (ones .entry)) (now (zeros .entry)) group)
-        (groupsOf (now (walked .entry)) (now (paid .entry)) at) (groupsOf (now (walked .exit)) (now (paid .exit)) r) at r ⌝ }
+        (firstGroups (now (walked .entry)) (now (paid .entry)) at) (firstGroups (now (walked .exit)) (now (paid .exit)) r) at r ⌝ }
 {
     let size = taxa::size(group);
     if size < 2 {
@@ -69,7 +69,7 @@ fn walk(
     ensures { λ r. ⌜
         Grown (now (weights .entry)) (now (ones .exit)) (now (zeros .exit)) (now (ws .entry)) (now (ws .exit))
         (walkOver (now (weights .entry)) (now (ones .entry)) (now (zeros .entry)) (take k (now (list .entry))))
-        (groupsOf (now (walked .entry)) (now (paid .entry)) at) (groupsOf (now (walked .exit)) (now (paid .exit)) r) at r ⌝ }
+        (firstGroups (now (walked .entry)) (now (paid .entry)) at) (firstGroups (now (walked .exit)) (now (paid .exit)) r) at r ⌝ }
 {
     let mut end = at;
     for i in 0usize..k {

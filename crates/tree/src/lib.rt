@@ -15,12 +15,12 @@ ghost use Prim.Native.Nat.{_*_};
 ghost use lib.ListN.{length};
 ghost use Rattle.record.specs.Bytes.{over};
 ghost use Rattle.matrix.specs.Check.{checked};
-ghost use Rattle.matrix.specs.declared.Checked.the-variants as checked;
+ghost use Rattle.matrix.specs.declared.Checked.the-variants as checks;
 ghost use Rattle.answer.specs.Content.{fileOf};
 ghost use Rattle.search.specs.Workspace.{cleared};
 ghost use Rattle.split.specs.Columns.{matrixIn};
 ghost use Rattle.method.specs.Tree.{ordered, flipList};
-ghost use Rattle.tree.specs.Lists.{groupsOf, entries};
+ghost use Rattle.tree.specs.Lists.{firstGroups, unweighed};
 ghost use Rattle.tree.specs.Grow.{Walked, Answers};
 ghost use Rattle.tree.specs.Build.{contentWith, contentFor, takenOf, Buildable, Slices, answered, built, outputAfter, workspaceAfter, returned, buildNumbers};
 
@@ -45,8 +45,8 @@ fn write_answer(
 ) -> Built
     requires { ⌜ Walked (now ones) (now zeros) (now after) (now off) n m (now walked) (now paid) k ⌝ }
     ensures { λ r. ⌜
-        Answers (contentWith n m (ordered 64 n (groupsOf (now (walked .entry)) (now (paid .entry)) k))
-        (flipList m (entries (now (ones .entry)) (now (zeros .entry))) (entries (now (after .entry)) (now (off .entry)))))
+        Answers (contentWith n m (ordered 64 n (firstGroups (now (walked .entry)) (now (paid .entry)) k))
+        (flipList m (unweighed (now (ones .entry)) (now (zeros .entry))) (unweighed (now (after .entry)) (now (off .entry)))))
         (now (out .entry)) r (now (out .exit)) ⌝ }
 {
     let mut taxa = [0u64; 63];
@@ -127,9 +127,9 @@ fn build_loaded(
 
 // A matrix that is taken: the refusals of the workspace and of the output, and else the build.
 fn build_matrix(file: &[u8], n: u16, m: u16, workspace: &mut [i32], out: &mut [u8]) -> Built
-    requires { ⌜ checked.Taken n m ≡ checked (now file) ⌝ }
+    requires { ⌜ checks.Taken n m ≡ checked (now file) ⌝ }
     ensures { λ r. ⌜
-        (r ≡ answered (checked.Taken n m) (now (file .entry)) (length (now (workspace .entry))) (length (now (out .entry))))
+        (r ≡ answered (checks.Taken n m) (now (file .entry)) (length (now (workspace .entry))) (length (now (out .entry))))
         × (now (out .exit) ≡ outputAfter (now (file .entry)) r (now (out .entry)))
         × (now (workspace .exit) ≡ workspaceAfter (now (file .entry)) r (now (workspace .entry))) ⌝ }
 {

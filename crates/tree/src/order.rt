@@ -9,7 +9,7 @@ ghost use Rattle.taxa.specs.Sum.{sum};
 ghost use Rattle.taxa.specs.Sets.{low};
 ghost use Rattle.method.specs.Tree.{kept, ordered, flipList};
 ghost use Rattle.tree.specs.Lists as lists;
-ghost use Rattle.tree.specs.Lists.{groupsOf, startsAt, Room, flipsIn, FlipRoom, entries};
+ghost use Rattle.tree.specs.Lists.{firstGroups, startsAt, Room, firstFlips, FlipRoom, unweighed};
 
 // One group more, where a test holds. Returns how many there are then.
 pub fn put_group(
@@ -23,8 +23,8 @@ pub fn put_group(
     requires { ⌜ (take ≡ true → (at < length (now taxa)) × (at < length (now costs))) ⌝ }
     ensures size { λ r. ⌜ r ≡ at + cond take 1 0 ⌝ }
     ensures list { λ r. ⌜
-        groupsOf (now (taxa .exit)) (now (costs .exit)) r
-        ≡ groupsOf (now (taxa .entry)) (now (costs .entry)) at ++ cond take (record { taxa = group; cost = cost } ∷ []) [] ⌝ }
+        firstGroups (now (taxa .exit)) (now (costs .exit)) r
+        ≡ firstGroups (now (taxa .entry)) (now (costs .entry)) at ++ cond take (record { taxa = group; cost = cost } ∷ []) [] ⌝ }
 {
     if take {
         taxa[at] = group;
@@ -53,11 +53,11 @@ fn keep_lowest(
 ) -> usize
     requires { ⌜
         Room k (now walked) (now paid)
-        × Room (at + length (kept (startsAt i) (groupsOf (now walked) (now paid) k))) (now taxa) (now costs) ⌝ }
-    ensures size { λ r. ⌜ r ≡ at + length (kept (startsAt i) (groupsOf (now (walked .entry)) (now (paid .entry)) k)) ⌝ }
+        × Room (at + length (kept (startsAt i) (firstGroups (now walked) (now paid) k))) (now taxa) (now costs) ⌝ }
+    ensures size { λ r. ⌜ r ≡ at + length (kept (startsAt i) (firstGroups (now (walked .entry)) (now (paid .entry)) k)) ⌝ }
     ensures list { λ r. ⌜
-        groupsOf (now (taxa .exit)) (now (costs .exit)) r
-        ≡ groupsOf (now (taxa .entry)) (now (costs .entry)) at ++ kept (startsAt i) (groupsOf (now (walked .entry)) (now (paid .entry)) k) ⌝ }
+        firstGroups (now (taxa .exit)) (now (costs .exit)) r
+        ≡ firstGroups (now (taxa .entry)) (now (costs .entry)) at ++ kept (startsAt i) (firstGroups (now (walked .entry)) (now (paid .entry)) k) ⌝ }
 {
     let mut end = at;
     for g in 0usize..k {
@@ -76,9 +76,9 @@ pub fn in_order(
     taxa: &mut [u64],
     costs: &mut [u32],
 ) -> usize
-    requires { ⌜ Room k (now walked) (now paid) × Room (length (ordered 64 n (groupsOf (now walked) (now paid) k))) (now taxa) (now costs) ⌝ }
-    ensures size { λ r. ⌜ r ≡ length (ordered 64 n (groupsOf (now (walked .entry)) (now (paid .entry)) k)) ⌝ }
-    ensures list { λ r. ⌜ groupsOf (now (taxa .exit)) (now (costs .exit)) r ≡ ordered 64 n (groupsOf (now (walked .entry)) (now (paid .entry)) k) ⌝ }
+    requires { ⌜ Room k (now walked) (now paid) × Room (length (ordered 64 n (firstGroups (now walked) (now paid) k))) (now taxa) (now costs) ⌝ }
+    ensures size { λ r. ⌜ r ≡ length (ordered 64 n (firstGroups (now (walked .entry)) (now (paid .entry)) k)) ⌝ }
+    ensures list { λ r. ⌜ firstGroups (now (taxa .exit)) (now (costs .exit)) r ≡ ordered 64 n (firstGroups (now (walked .entry)) (now (paid .entry)) k) ⌝ }
 {
     let mut end = 0;
     for i in 0u32..n {
@@ -110,8 +110,8 @@ fn put_flips(
     requires { ⌜ FlipRoom (at + 1) (now columns) (now raised) (now lowered) ⌝ }
     ensures size { λ r. ⌜ r ≡ at + cond (lists.unflipped up down) 0 1 ⌝ }
     ensures list { λ r. ⌜
-        flipsIn (now (columns .exit)) (now (raised .exit)) (now (lowered .exit)) r
-        ≡ flipsIn (now (columns .entry)) (now (raised .entry)) (now (lowered .entry)) at
+        firstFlips (now (columns .exit)) (now (raised .exit)) (now (lowered .exit)) r
+        ≡ firstFlips (now (columns .entry)) (now (raised .entry)) (now (lowered .entry)) at
         ++ cond (lists.unflipped up down) [] (record { column = column; raised = up; lowered = down } ∷ []) ⌝ }
 {
     if unflipped(up, down) {
@@ -140,10 +140,10 @@ pub fn list_flips(
         × (m ≤ length (now after))
         × (m ≤ length (now off))
         × FlipRoom m (now columns) (now raised) (now lowered) ⌝ }
-    ensures size { λ r. ⌜ r ≡ length (flipList m (entries (now (ones .entry)) (now (zeros .entry))) (entries (now (after .entry)) (now (off .entry)))) ⌝ }
+    ensures size { λ r. ⌜ r ≡ length (flipList m (unweighed (now (ones .entry)) (now (zeros .entry))) (unweighed (now (after .entry)) (now (off .entry)))) ⌝ }
     ensures list { λ r. ⌜
-        flipsIn (now (columns .exit)) (now (raised .exit)) (now (lowered .exit)) r
-        ≡ flipList m (entries (now (ones .entry)) (now (zeros .entry))) (entries (now (after .entry)) (now (off .entry))) ⌝ }
+        firstFlips (now (columns .exit)) (now (raised .exit)) (now (lowered .exit)) r
+        ≡ flipList m (unweighed (now (ones .entry)) (now (zeros .entry))) (unweighed (now (after .entry)) (now (off .entry))) ⌝ }
 {
     let mut end = 0;
     for c in 0usize..m {

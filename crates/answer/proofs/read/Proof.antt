@@ -6,7 +6,7 @@ use Rattle.record.specs.Records.{passedRefusal}
 use Rattle.record.specs.declared.Passed.the-variants.{At, Refused}
 use Rattle.answer.specs.declared.Answer.{Answer}
 use Rattle.answer.specs.declared.Verdict.the-variants as verdict
-use Rattle.answer.specs.Content.{flipsIn}
+use Rattle.answer.specs.Content.{flipCount}
 use Rattle.answer.specs.Reading.{listed, fileTests}
 use Rattle.answer.proofs.Outcomes.{file-refused, no-room, taken, Laid, laid}
 use native.Mathlib.Omega.{arith}
@@ -70,7 +70,7 @@ add-fill c = search needs
 
 roomy : (c : tie.Else1) →
     let s = c .before .before .before .before .before .before .before .before .before .before .args in
-    flipsIn (s .file .now) ≤ listed (s .columns .now) (s .raised .now) (s .lowered .now)
+    flipCount (s .file .now) ≤ listed (s .columns .now) (s .raised .now) (s .lowered .now)
 roomy c = omega (arith, c .before .least .ensures, c .before .before .u16-at .ensures, c .if1 .left)
 
 fill-requires : tie.Need-fill-requires

@@ -38,7 +38,7 @@ use denote.Triple.Table.{entered}
 use denote.Triple.Walked.{says, needs, Stays, stay-slice, stay-none-slice, stay-none, walkOf, goes-slice, goes-none-slice, goes-none, ends-at}
 use denote.Exit.{yes}
 use Rattle.entries.specs.declared.Flip.{Flip}
-use Rattle.entries.specs.Entries.{zipped, over, narrow}
+use Rattle.entries.specs.Entries.{zipped, withFirst, narrow}
 use Rattle.entries.proofs.Rows.{blank, set-next, length-over, within-over, long-zipped, zipped-at}
 use Rattle.entries.proofs.Lends.{slice, Shared, Mine, Opened, opens, closes}
 use Rattle.entries.proofs.Elements.{number, flip, Seen, sees, start, points, reads-element, writes-element}
@@ -93,10 +93,10 @@ module _ {M : Type 1} (𝓤 : URA M) (H : Heap 𝓤) (A : Atoms 𝓤) (W : Given
       move ! (0 ∷ 2 ∷ []) $ fjoin ! $ move ! (2 ∷ 0 ∷ []) $ fjoin ! $ move ! (3 ∷ 0 ∷ []) $ fjoin ! $ keep ! (4 ∷ 7 ∷ 1 ∷ 6 ∷ 2 ∷ 5 ∷ 3 ∷ 0 ∷ []) $ done !
 
   -- from what is had at exit to the `post` of `walkOf`
-  exits : length (over n Z (x .now)) ≡ length (x .now) → ent 𝓤 (⋆ 𝓤 H A (‵ (L (over n Z (x .now))) ∷ (Looks ++ (‵ Tail ∷ [])))) (Post vunit)
+  exits : length (withFirst n Z (x .now)) ≡ length (x .now) → ent 𝓤 (⋆ 𝓤 H A (‵ (L (withFirst n Z (x .now))) ∷ (Looks ++ (‵ Tail ∷ [])))) (Post vunit)
   exits same =
-      qed W (‵ (L (over n Z (x .now))) ∷ (Looks ++ (‵ Tail ∷ []))) ∵
-      suffices ! _ (ends-at 𝓤 H A fill′.ended stayed (fill′.clauses 𝓤 H A mem run) W bound vunit tt (over n Z (x .now), (tt, (tt, (tt, (tt, tt))))) (same, (tt, (tt, (tt, (tt, tt)))))) $ says ! refl $ fsplit ! $
+      qed W (‵ (L (withFirst n Z (x .now))) ∷ (Looks ++ (‵ Tail ∷ []))) ∵
+      suffices ! _ (ends-at 𝓤 H A fill′.ended stayed (fill′.clauses 𝓤 H A mem run) W bound vunit tt (withFirst n Z (x .now), (tt, (tt, (tt, (tt, tt))))) (same, (tt, (tt, (tt, (tt, tt)))))) $ says ! refl $ fsplit ! $
       -- [list's; t; t₃; S₃; t₂; S₂; t₁; S₁; what the others own]
       keep ! (1 ∷ 6 ∷ 4 ∷ 2 ∷ 0 ∷ 8 ∷ []) $ pays ! 4 κs qs $ fjoin ! $ frame ! $ feqI ! (List Val) (vunit ∷ []) (vunit ∷ []) refl $ done !
 
@@ -107,7 +107,7 @@ module _ {M : Type 1} (𝓤 : URA M) (H : Heap 𝓤) (A : Atoms 𝓤) (W : Given
       En = homes 𝓤 H (code.function .locals) 0 l
 
       abbrev Inv : Turn n → List (Item 𝓤)
-      Inv y = ‵ (row T.the-row fullShare (over (y .0) Z (x .now)) (x .ptr .0) (x .ptr .1)) ∷ (Looks ++ (‵ (fat fullShare (tyInt w64) (l 6) 0 (vint w64 (y .0))) ∷ (rooms 𝓤 H (drop 7 En) ++ (hold 𝓤 H (take 5 (drop 1 En)) (vals x x₁ x₂ x₃ n)
+      Inv y = ‵ (row T.the-row fullShare (withFirst (y .0) Z (x .now)) (x .ptr .0) (x .ptr .1)) ∷ (Looks ++ (‵ (fat fullShare (tyInt w64) (l 6) 0 (vint w64 (y .0))) ∷ (rooms 𝓤 H (drop 7 En) ++ (hold 𝓤 H (take 5 (drop 1 En)) (vals x x₁ x₂ x₃ n)
           ++ (‵ (froom tyUnit (l 0) 0) ∷ ‵ (Opened κ q T.the-row x) ∷ ‵ Tail ∷ die 𝓤 H En)))))
 
       abbrev Turns : Turn n → Type 1
@@ -118,7 +118,7 @@ module _ {M : Type 1} (𝓤 : URA M) (H : Heap 𝓤) (A : Atoms 𝓤) (W : Given
       unfolding afterTurn
       more y e small =
           let k : ℕ = y .0 in
-          let zs : List Flip = over k Z (x .now) in
+          let zs : List Flip = withFirst k Z (x .now) in
           let at = reaches x x₁ x₂ x₃ n sized (long .0) (long .1 .0) (long .1 .1 .0) (long .1 .1 .1 .0) k small in
           let in-new : k < length Z = long-zipped (suc k) (x₁ .now) (x₂ .now) (x₃ .now) (at .in-columns) (at .in-raised) (at .in-lowered) in
           let narrow : Fits w16 (getD (x₁ .now) k 0) = record { fits = long .1 .1 .1 .1 k small } in
@@ -142,9 +142,9 @@ module _ {M : Type 1} (𝓤 : URA M) (H : Heap 𝓤) (A : Atoms 𝓤) (W : Given
       ends : (all : n ≤ n) → ltb n n ≡ false → Turns (n, all)
       unfolding afterTurn
       ends all e =
-          let same : length (over n Z (x .now)) ≡ length (x .now) = length-over n Z (x .now) (long-zipped n (x₁ .now) (x₂ .now) (x₃ .now) (long .1 .0) (long .1 .1 .0) (long .1 .1 .1 .0)) (long .0) in
+          let same : length (withFirst n Z (x .now)) ≡ length (x .now) = length-over n Z (x .now) (long-zipped n (x₁ .now) (x₂ .now) (x₃ .now) (long .1 .0) (long .1 .1 .0) (long .1 .1 .1 .0)) (long .0) in
           tests ! e (held ! 7 refl) (held ! 26 refl) 8 refl refl $ leaves-loop ! (held ! 8 refl) $
-          exec ! (𝓣 .C) (𝓣 .Λ) En mir′.t-3 (atRet En Post) $ move ! (0 ∷ 28 ∷ []) $ closes ! tt T.the-row x (over n Z (x .now)) same $
+          exec ! (𝓣 .C) (𝓣 .Λ) En mir′.t-3 (atRet En Post) $ move ! (0 ∷ 28 ∷ []) $ closes ! tt T.the-row x (withFirst n Z (x .now)) same $
           -- [list; t₃; S₃; t₂; S₂; t₁; S₁; _6; …]
           sets ! (of-opd ! (unit-lit !)) 27 refl (tt, tt) $ returns ! (look ! 27 refl) $ forget ! 27 refl $ forget ! 22 refl $ forget ! 23 refl $ forget ! 24 refl $ forget ! 25 refl $ forget ! 26 refl $ forget ! 7 refl $ forget ! 8 refl $
           move ! (27 ∷ (span 22 5 ++ (span 7 15 ++ span 29 21))) $ all-free ! En $ by ! (exits same)

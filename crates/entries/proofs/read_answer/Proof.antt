@@ -44,7 +44,7 @@ use Rattle.answer.specs.declared.Reading.{Reading}
 use Rattle.answer.proofs.Reading as D
 use Rattle.answer.proofs.Reading.Laws as D′
 use Rattle.entries.specs.declared.Flip.{Flip}
-use Rattle.entries.specs.Entries.{zipped, over, narrow, ReadsEntries, InParts}
+use Rattle.entries.specs.Entries.{zipped, withFirst, narrow, ReadsEntries, InParts}
 use Rattle.entries.proofs.Rows.{length-over, long-zipped}
 use Rattle.entries.proofs.Reading.{parts-read}
 use Rattle.entries.proofs.Lends.{slice, Shared, copies, Mine, Opened, opens, closes, lent-at, Tok, Lent, Kept, lends, comes-back}
@@ -164,7 +164,7 @@ module _ {M : Type 1} (𝓤 : URA M) (H : Heap 𝓤) (A : Atoms 𝓤) (W : Given
           nothing ! $ owned ! usize (Is usize) (uint-makes 𝓤 H A W w64) k _ (refl, k-fits) $ fjoin ! $ move ! (4 ∷ 0 ∷ []) $ fjoin ! $ move ! (3 ∷ 0 ∷ []) $ fjoin ! $ move ! (2 ∷ 0 ∷ []) $ fjoin ! $ move ! (1 ∷ 0 ∷ []) $ fjoin ! $ done !
 
       abbrev filled : List Flip
-      filled = over k (zipped (zs .0) (zs .1) (zs .2)) (y .now)
+      filled = withFirst k (zipped (zs .0) (zs .1) (zs .2)) (y .now)
 
       abbrev From-fill : Val → List (Item 𝓤)
       From-fill r = raw (Fill 𝓤 H A mem run .post to-fill r) ∷ ‵ (Kept T.the-row (y .ptr .0) (y .ptr .1) w₀ (y .now)) ∷ ‵ (Opened κ₁ q₁ T.the-row y) ∷ KeptsShr 𝓤 p w zs
@@ -183,7 +183,7 @@ module _ {M : Type 1} (𝓤 : URA M) (H : Heap 𝓤) (A : Atoms 𝓤) (W : Given
     flips = z .0 .answer .flips
 
     abbrev after : List Flip
-    after = over flips (zipped (z .1 .0) (z .1 .1) (z .1 .2)) (y .now)
+    after = withFirst flips (zipped (z .1 .0) (z .1 .1) (z .1 .2)) (y .now)
 
     fit : (zs : List ℕ) → length zs ≡ 256 → flips ≤ length zs
     fit zs e = subst (λ (n : ℕ). flips ≤ n) (sym e) (known .few)

@@ -39,7 +39,7 @@ use denote.Triple.Table.{entered}
 use denote.Triple.Walked.{says, needs, Stays, stay-slice, stay-none-slice, stay-none, walkOf, goes-slice, goes-none-slice, goes-none, ends-at}
 use denote.Exit.{yes}
 use Rattle.entries.specs.declared.Flip.{Flip}
-use Rattle.entries.specs.Entries.{columnsOf, raisedOf, loweredOf, over}
+use Rattle.entries.specs.Entries.{entryColumns, entryRaised, entryLowered, withFirst}
 use Rattle.entries.proofs.Rows.{blank, set-copied, length-copied, within-copied}
 use Rattle.entries.proofs.Lends.{slice, Shared, Mine, Opened, opens, closes}
 use Rattle.entries.proofs.Elements.{number, flip, Seen, sees, start, points, reads-element, writes-element}
@@ -70,13 +70,13 @@ lowered f = f .lowered
 module _ {M : Type 1} (𝓤 : URA M) (H : Heap 𝓤) (A : Atoms 𝓤) (W : Given 𝓤 H A) (mem : Memory → SProp 𝓤) (run : Routine → Fun 𝓤) (κ κ₁ κ₂ κ₃ : Lft) (q q₁ q₂ q₃ : Share) (x : RefT (List Flip)) (x₁ x₂ x₃ : RefT (List ℕ)) (n : ℕ) where
   -- the parts after k turns
   abbrev z₁ : ℕ → List ℕ
-  z₁ k = over k (columnsOf (x .now)) (x₁ .now)
+  z₁ k = withFirst k (entryColumns (x .now)) (x₁ .now)
 
   abbrev z₂ : ℕ → List ℕ
-  z₂ k = over k (raisedOf (x .now)) (x₂ .now)
+  z₂ k = withFirst k (entryRaised (x .now)) (x₂ .now)
 
   abbrev z₃ : ℕ → List ℕ
-  z₃ k = over k (loweredOf (x .now)) (x₃ .now)
+  z₃ k = withFirst k (entryLowered (x .now)) (x₃ .now)
 
   abbrev κs : Lfts 4
   κs = (κ, (κ₁, (κ₂, (κ₃, tt))))

@@ -8,7 +8,7 @@ use Rattle.method.specs.Tree.{ordered, flipList, total}
 use Rattle.answer.specs.Content.{contentOf}
 use Rattle.answer.specs.Reading.{listed}
 use Rattle.tree.specs.declared.Built.the-variants.{Taken}
-use Rattle.tree.specs.Lists.{groupsOf, entries}
+use Rattle.tree.specs.Lists.{firstGroups, unweighed}
 use Rattle.tree.specs.Build.{contentWith}
 use Rattle.tree.proofs.Lists.{total-of, list-few}
 use Rattle.tree.proofs.Writing.{content-is, answers-as}
@@ -30,11 +30,11 @@ abbrev flips-listed : tie.After-slice-known2 → tie.After-list-flips
 flips-listed c = c .before .before .before .before .before .before .before .before .before .before
 
 -- The sum is the total of the groups in file order.
-sum-is : (c : tie.After-sum-costs) → let a = begun (put-in-order c) .args in c .sum-costs .result ≡ total (ordered 64 (a .n) (groupsOf (a .walked .now) (a .paid .now) (a .k)))
+sum-is : (c : tie.After-sum-costs) → let a = begun (put-in-order c) .args in c .sum-costs .result ≡ total (ordered 64 (a .n) (firstGroups (a .walked .now) (a .paid .now) (a .k)))
 sum-is c = let order = put-in-order c .in-order in c .sum-costs .ensures ∙ sym (total-of _ _ (order .result)) ∙ ap total (order .ensures .1)
 
-few-flips : (c : tie.Start) → length (flipList (c .args .m) (entries (c .args .ones .now) (c .args .zeros .now)) (entries (c .args .after .now) (c .args .off .now))) ≤ c .args .m
-few-flips c = let a = c .args in list-few (entries (a .ones .now) (a .zeros .now)) (entries (a .after .now) (a .off .now)) (a .m)
+few-flips : (c : tie.Start) → length (flipList (c .args .m) (unweighed (c .args .ones .now) (c .args .zeros .now)) (unweighed (c .args .after .now) (c .args .off .now))) ≤ c .args .m
+few-flips c = let a = c .args in list-few (unweighed (a .ones .now) (a .zeros .now)) (unweighed (a .after .now) (a .off .now)) (a .m)
 
 -- ---- what the calls ask for
 
@@ -107,7 +107,7 @@ content : (c : tie.After-slice-known2) →
     let a = begun (put-in-order sum) .args in
     contentOf (record { n = a .n; m = a .m; groups = order .result; flips = flips .result; total = sum .sum-costs .result; taxa = order .last .1 .1 .1 .1 .0; costs = order .last .1 .1 .1 .1 .1 .0 })
     (flips .last .1 .1 .1 .1 .1 .0) (flips .last .1 .1 .1 .1 .1 .1 .0) (flips .last .1 .1 .1 .1 .1 .1 .1 .0)
-    ≡ contentWith (a .n) (a .m) (ordered 64 (a .n) (groupsOf (a .walked .now) (a .paid .now) (a .k))) (flipList (a .m) (entries (a .ones .now) (a .zeros .now)) (entries (a .after .now) (a .off .now)))
+    ≡ contentWith (a .n) (a .m) (ordered 64 (a .n) (firstGroups (a .walked .now) (a .paid .now) (a .k))) (flipList (a .m) (unweighed (a .ones .now) (a .zeros .now)) (unweighed (a .after .now) (a .off .now)))
 content c =
     let flips = flips-listed c .list-flips in
     let sum = summed (flips-listed c) in

@@ -6,7 +6,7 @@ use Prim.Native.Nat.{ℕ, _≤_}
 use lib.ListN.{length}
 use Rattle.record.specs.Bytes.{numberAt}
 use Rattle.record.specs.declared.Passed.the-variants.{At}
-use Rattle.answer.specs.Content.{contentIn, groupsIn, flipsIn, flipsStart, columnsFrom, raisedFrom, loweredFrom}
+use Rattle.answer.specs.Content.{contentIn, groupCount, flipCount, flipsStart, columnsFrom, raisedFrom, loweredFrom}
 use Rattle.answer.specs.Tests.{inFile, walk, flipsTest, tests}
 use Rattle.answer.proofs.Kept.{HeadKept}
 use Rattle.answer.proofs.Files.{headOf, groupsOf, flipsOf, endOf, head-leads, groups-lead, stops, ends}
@@ -32,7 +32,7 @@ headed c = sym (c .head .given .1) ∙ c .before .before .pass-head .ensures
 
 leads : (c : tie.After-head) →
     let file = c .before .before .before .before .args .file .now in
-    HeadKept (numberAt 2 file 4) (numberAt 2 file 6) (groupsIn file) (flipsIn file) (flipsIn file) × (c .head .given .0 .0 .at ≡ 16) × (16 ≤ length file)
+    HeadKept (numberAt 2 file 4) (numberAt 2 file 6) (groupCount file) (flipCount file) (flipCount file) × (c .head .given .0 .0 .at ≡ 16) × (16 ≤ length file)
 leads c = head-leads _ (headed c)
 
 u16-at-requires : tie.Need-u16-at-requires
@@ -67,11 +67,11 @@ file-of c = headed-at c .before .before .before .before .args .file .now
 grouped-to : (c : tie.After-passed) → At (c .passed .given .0 .0) ≡ groupsOf (file-of c) (headed-at c .head .given .0 .0)
 grouped-to c = sym (c .passed .given .1) ∙ grouped (c .before .before)
 
-lead : (c : tie.After-passed) → (c .passed .given .0 .0 .at ≡ flipsStart (groupsIn (file-of c))) × (c .passed .given .0 .0 .at ≤ length (file-of c))
+lead : (c : tie.After-passed) → (c .passed .given .0 .0 .at ≡ flipsStart (groupCount (file-of c))) × (c .passed .given .0 .0 .at ≤ length (file-of c))
 lead c = groups-lead (file-of c) (headed (headed-at c)) (grouped-to c)
 
 -- The numbers that were read for them.
-numbers : (c : tie.After-passed) → let got = c .before .before in (got .before .before .u16-at .result ≡ numberAt 2 (file-of c) 4) × (got .before .u16-at2 .result ≡ groupsIn (file-of c))
+numbers : (c : tie.After-passed) → let got = c .before .before in (got .before .before .u16-at .result ≡ numberAt 2 (file-of c) 4) × (got .before .u16-at2 .result ≡ groupCount (file-of c))
 numbers c = let got = c .before .before in (got .before .before .u16-at .ensures, got .before .u16-at2 .ensures)
 
 returns-2 : tie.Need-returns-2
@@ -101,7 +101,7 @@ flipped : (c : tie.After-pass-flips) →
 flipped c =
     let g = c .before .before .before .before in
     rw (numbers g .0, c .before .before .u16-at3 .ensures, c .before .u16-at4 .ensures) at (c .pass-flips .ensures)
-    ∙ ap (λ (at : ℕ). walk (flipsTest (inFile (file-of g)) (numberAt 2 (file-of g) 4) (numberAt 2 (file-of g) 6) (columnsFrom (file-of g) at (flipsIn (file-of g))) (raisedFrom (file-of g) at (flipsIn (file-of g))) (loweredFrom (file-of g) at (flipsIn (file-of g)))) (flipsIn (file-of g)) (g .passed .given .0 .0)) (lead g .0)
+    ∙ ap (λ (at : ℕ). walk (flipsTest (inFile (file-of g)) (numberAt 2 (file-of g) 4) (numberAt 2 (file-of g) 6) (columnsFrom (file-of g) at (flipCount (file-of g))) (raisedFrom (file-of g) at (flipCount (file-of g))) (loweredFrom (file-of g) at (flipCount (file-of g)))) (flipCount (file-of g)) (g .passed .given .0 .0)) (lead g .0)
 
 returns-3 : tie.Need-returns-3
 returns-3 c =
@@ -129,7 +129,7 @@ ended c = let g = c .before .before .before .before .before .before .before .bef
 
 to-end : (c : tie.After-pass-end) →
     let g = c .before .before .before .before .before .before .before .before in
-    c .pass-end .result ≡ tests (inFile (file-of g)) (contentIn (file-of g)) (flipsIn (file-of g))
+    c .pass-end .result ≡ tests (inFile (file-of g)) (contentIn (file-of g)) (flipCount (file-of g))
 to-end c =
     let f = c .before .before in
     let g = f .before .before .before .before .before .before in

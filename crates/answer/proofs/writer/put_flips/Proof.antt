@@ -5,7 +5,7 @@ use Prim.Native.Nat.{_≤_, _*_, _-_}
 use lib.ListN.{length}
 use Rattle.record.specs.Bytes.{over}
 use Rattle.record.proofs.Over.{nothing, next}
-use Rattle.answer.specs.Content.{run, flipsOf}
+use Rattle.answer.specs.Content.{run, flipsRecord}
 use Rattle.answer.proofs.Runs.{run-more}
 use Rattle.answer.proofs.Pieces.{length-all-flips}
 use native.Mathlib.Omega.{arith}
@@ -13,7 +13,7 @@ use Rattle.answer.proofs.writer.put_flips.Statement.{statement}
 use Rattle.answer.proofs.writer.put_flips.Tie as tie
 
 abbrev Inv-loop : tie.InvT-loop
-Inv-loop out₀ columns raised lowered flips j₀ at₀ out j at = (j ≤ flips) × (at ≡ 22 * j) × (length out ≡ length out₀) × (out ≡ over (run (flipsOf columns raised lowered) j) 0 out₀)
+Inv-loop out₀ columns raised lowered flips j₀ at₀ out j at = (j ≤ flips) × (at ≡ 22 * j) × (length out ≡ length out₀) × (out ≡ over (run (flipsRecord columns raised lowered) j) 0 out₀)
 
 abbrev μ-loop : tie.MeasureT-loop
 μ-loop out₀ columns raised lowered flips j₀ at₀ out j at = flips - j

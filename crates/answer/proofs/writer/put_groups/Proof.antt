@@ -5,7 +5,7 @@ use Prim.Native.Nat.{_≤_, _*_, _-_}
 use lib.ListN.{length}
 use Rattle.record.specs.Bytes.{over}
 use Rattle.record.proofs.Over.{nothing, next}
-use Rattle.answer.specs.Content.{run, groupOf}
+use Rattle.answer.specs.Content.{run, groupRecord}
 use Rattle.answer.proofs.Runs.{run-more}
 use Rattle.answer.proofs.Pieces.{length-groups}
 use native.Mathlib.Omega.{arith}
@@ -13,7 +13,7 @@ use Rattle.answer.proofs.writer.put_groups.Statement.{statement}
 use Rattle.answer.proofs.writer.put_groups.Tie as tie
 
 abbrev Inv-loop : tie.InvT-loop
-Inv-loop out₀ taxa costs groups i₀ at₀ out i at = (i ≤ groups) × (at ≡ 16 * i) × (length out ≡ length out₀) × (out ≡ over (run (groupOf taxa costs) i) 0 out₀)
+Inv-loop out₀ taxa costs groups i₀ at₀ out i at = (i ≤ groups) × (at ≡ 16 * i) × (length out ≡ length out₀) × (out ≡ over (run (groupRecord taxa costs) i) 0 out₀)
 
 abbrev μ-loop : tie.MeasureT-loop
 μ-loop out₀ taxa costs groups i₀ at₀ out i at = groups - i

@@ -12,7 +12,7 @@ use Rattle.taxa.specs.Sets.{count}
 use Rattle.method.specs.Tree.{build}
 use Rattle.search.specs.Search.{colsOf}
 use Rattle.split.specs.Columns.{Parallel}
-use Rattle.tree.specs.Lists.{groupsOf}
+use Rattle.tree.specs.Lists.{firstGroups}
 use Rattle.tree.proofs.Walking.{Going, going-start, going-room, going-next, going-end, one-taxon, still-listed, rest-length, ready-part, ready-wide}
 use Rattle.tree.proofs.Opening.{search-given, listed-parts, listed-fits, parts-ready, parts-room, grown-group, first-room}
 use borrow.Fn.Kinds.{In}
@@ -38,7 +38,7 @@ abbrev μ-walk : Measures 7 walk-kinds.ps ℕ
 abbrev Inv : walk-lts.InvT-loop
 Inv weights ones₀ zeros₀ ws₀ n list₀ k bound walked₀ paid₀ at end₀ i₀ ones zeros ws list found paid end i =
     (i ≤ k) × Parallel weights ones zeros × (ws ≡ ws₀) × (length list ≡ length list₀) × (take k list ≡ take k list₀) × (length found ≡ length walked₀) × (length paid ≡ length paid₀)
-    × Going (build 64 (length weights)) (take k list₀) (colsOf weights ones₀ zeros₀) (colsOf weights ones zeros) (groupsOf walked₀ paid₀ at) (groupsOf found paid end) at end i
+    × Going (build 64 (length weights)) (take k list₀) (colsOf weights ones₀ zeros₀) (colsOf weights ones zeros) (firstGroups walked₀ paid₀ at) (firstGroups found paid end) at end i
 
 abbrev μ-loop : walk-lts.MeasureT-loop
 μ-loop weights ones₀ zeros₀ ws₀ n list₀ k bound walked₀ paid₀ at end₀ i₀ ones zeros ws list found paid end i = k - i

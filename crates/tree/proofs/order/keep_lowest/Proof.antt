@@ -6,21 +6,21 @@ use mathlib.Core.List.{_++_, append-nil, append-assoc}
 use Prim.Native.Nat.{_+_, _-_, _≤_}
 use lib.ListN.{length}
 use Rattle.method.specs.Tree.{kept}
-use Rattle.tree.specs.Lists.{groupsOf, startsAt}
+use Rattle.tree.specs.Lists.{firstGroups, startsAt}
 use Rattle.tree.proofs.Lists.{kept-next, kept-size, kept-room}
 use Rattle.tree.proofs.order.keep_lowest.Statement.{statement}
 use Rattle.tree.proofs.order.keep_lowest.Tie as tie
 
 abbrev Inv-loop : tie.InvT-loop
 Inv-loop walked paid k i taxa₀ costs₀ at end₀ g₀ taxa costs end g =
-    (g ≤ k) × (end ≡ at + length (kept (startsAt i) (groupsOf walked paid g))) × (length taxa ≡ length taxa₀) × (length costs ≡ length costs₀)
-    × (groupsOf taxa costs end ≡ groupsOf taxa₀ costs₀ at ++ kept (startsAt i) (groupsOf walked paid g))
+    (g ≤ k) × (end ≡ at + length (kept (startsAt i) (firstGroups walked paid g))) × (length taxa ≡ length taxa₀) × (length costs ≡ length costs₀)
+    × (firstGroups taxa costs end ≡ firstGroups taxa₀ costs₀ at ++ kept (startsAt i) (firstGroups walked paid g))
 
 abbrev μ-loop : tie.MeasureT-loop
 μ-loop walked paid k i taxa₀ costs₀ at end₀ g₀ taxa costs end g = k - g
 
 loop-holds : tie.Need-loop-holds Inv-loop μ-loop
-unfolding groupsOf kept
+unfolding firstGroups kept
 loop-holds c = (search needs, omega arith, refl, refl, sym (append-nil _))
 
 mul-group : tie.Need-mul-group Inv-loop μ-loop

@@ -5,22 +5,22 @@ use mathlib.Core.Path.{_≡_, refl}
 use Prim.Native.Nat.{_-_, _≤_}
 use lib.ListN.{length}
 use Rattle.method.specs.Tree.{flipList}
-use Rattle.tree.specs.Lists.{flipsIn, entries}
+use Rattle.tree.specs.Lists.{firstFlips, unweighed}
 use Rattle.tree.proofs.Lists.{list-next, list-size, list-few}
 use Rattle.tree.proofs.order.list_flips.Statement.{statement}
 use Rattle.tree.proofs.order.list_flips.Tie as tie
 
 abbrev Inv-loop : tie.InvT-loop
 Inv-loop ones zeros after off m columns₀ raised₀ lowered₀ end₀ c₀ columns raised lowered end c =
-    (c ≤ m) × (end ≡ length (flipList c (entries ones zeros) (entries after off)))
+    (c ≤ m) × (end ≡ length (flipList c (unweighed ones zeros) (unweighed after off)))
     × (length columns ≡ length columns₀) × (length raised ≡ length raised₀) × (length lowered ≡ length lowered₀)
-    × (flipsIn columns raised lowered end ≡ flipList c (entries ones zeros) (entries after off))
+    × (firstFlips columns raised lowered end ≡ flipList c (unweighed ones zeros) (unweighed after off))
 
 abbrev μ-loop : tie.MeasureT-loop
 μ-loop ones zeros after off m columns₀ raised₀ lowered₀ end₀ c₀ columns raised lowered end c = m - c
 
 loop-holds : tie.Need-loop-holds Inv-loop μ-loop
-unfolding flipList flipsIn
+unfolding flipList firstFlips
 loop-holds c = (search needs, refl, refl, refl, refl, refl)
 
 mul-common : tie.Need-mul-common Inv-loop μ-loop
@@ -57,7 +57,7 @@ put-flips-requires : tie.Need-put-flips-requires Inv-loop μ-loop
 put-flips-requires c κs =
     let l = c .before .before .before .before .before .before .before .before .before .before .loop in
     let a = c .before .before .before .before .before .before .before .before .before .before .before .before .before .before .before .before .before .before .args in
-    let few = list-few (entries (a .ones .now) (a .zeros .now)) (entries (a .after .now) (a .off .now)) (l .c) in
+    let few = list-few (unweighed (a .ones .now) (a .zeros .now)) (unweighed (a .after .now) (a .off .now)) (l .c) in
     record { columns-room = omega arith; raised-room = omega arith; lowered-room = omega arith }
 
 add-c : tie.Need-add-c Inv-loop μ-loop
@@ -73,7 +73,7 @@ loop-again c =
     let up = c .before .before .before .before .before .before .before .before .before .before .before .before .before .common .ensures in
     let l = c .before .before .before .before .before .before .before .before .before .before .before .before .before .before .before .before .before .loop in
     let a = c .before .before .before .before .before .before .before .before .before .before .before .before .before .before .before .before .before .before .before .before .before .before .before .before .before .args in
-    let more = rw (← up, ← down) at (list-size (entries (a .ones .now) (a .zeros .now)) (entries (a .after .now) (a .off .now)) (l .c)) in
+    let more = rw (← up, ← down) at (list-size (unweighed (a .ones .now) (a .zeros .now)) (unweighed (a .after .now) (a .off .now)) (l .c)) in
     (search needs, omega (arith, put .ensures .0), search needs, search needs, search needs, rw (list-next, ← up, ← down, ← l .inv .5) (put .ensures .1))
 
 same-length : tie.Need-same-length Inv-loop μ-loop
