@@ -13,3 +13,4 @@ pub mod Encoding
 pub mod Lawful
 pub mod RoundTrip
 pub mod Meaning
+pub mod Numbers

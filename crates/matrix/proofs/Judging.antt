@@ -66,22 +66,22 @@ one-more file known (suc m) here h = rw sub-one
 
 -- The check ends where a reading is refused, and else with n and m.
 module _ (file : List ℕ) where
-  abbrev columnsOf : Cursor → Passed
-  columnsOf = columnsPassed file (all (numberAt 2 file 4)) (numberAt 2 file 6)
+  abbrev columnsRest : Cursor → Passed
+  columnsRest = columnsPassed file (all (numberAt 2 file 4)) (numberAt 2 file 6)
 
   pub head-refused : {why : Refusal} → headPassed file ≡ Refused why → checks.Refused why ≡ checked file
   unfolding checked filePassed
   head-refused h = rw h
 
   module _ {first : Cursor} (h : headPassed file ≡ At first) where
-    pub columns-refused : {why : Refusal} → columnsOf first ≡ Refused why → checks.Refused why ≡ checked file
+    pub columns-refused : {why : Refusal} → columnsRest first ≡ Refused why → checks.Refused why ≡ checked file
     unfolding checked filePassed
     columns-refused k = rw (h, k)
 
-    pub end-refused : {end : Cursor} {why : Refusal} → columnsOf first ≡ At end → endPassed file end ≡ Refused why → checks.Refused why ≡ checked file
+    pub end-refused : {end : Cursor} {why : Refusal} → columnsRest first ≡ At end → endPassed file end ≡ Refused why → checks.Refused why ≡ checked file
     unfolding checked filePassed
     end-refused k e = rw (h, k, e)
 
-    pub all-passed : {end last : Cursor} → columnsOf first ≡ At end → endPassed file end ≡ At last → Taken (numberAt 2 file 4) (numberAt 2 file 6) ≡ checked file
+    pub all-passed : {end last : Cursor} → columnsRest first ≡ At end → endPassed file end ≡ At last → Taken (numberAt 2 file 4) (numberAt 2 file 6) ≡ checked file
     unfolding checked filePassed
     all-passed k e = rw (h, k, e)

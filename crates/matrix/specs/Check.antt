@@ -1,4 +1,5 @@
 -- The operation "check a matrix": refusals 1 to 8 in document 01's order, "within a record by number".
+use mathlib.Core.Path.{_≡_}
 use mathlib.Core.Bool.{_||_, _&&_, cond}
 use mathlib.Core.List.{List}
 use Prim.Native.Nat.{ℕ, zero, suc, _+_}
@@ -81,3 +82,8 @@ returned (Refused why) = record { number = why .number; place = why .place; n = 
 -- The numbers that the check of a file returns.
 abbrev pub checkNumbers : List ℕ → Returned
 checkNumbers file = returned (checked file)
+
+-- What the check promises of its answer.
+pub record Checks (file : List ℕ) (r : Checked) : Type 0 where
+  pub answers : r ≡ checked file
+  pub numbers : returned r ≡ checkNumbers file

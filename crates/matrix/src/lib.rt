@@ -133,7 +133,7 @@ fn pass_end(here: Cursor, file: &[u8]) -> Passed
 
 // The operation "check a matrix".
 pub fn check(file: &[u8]) -> Checked
-    ensures { λ r. ⌜ (r ≡ check.checked (now (file .entry))) × (check.returned r ≡ check.checkNumbers (now (file .entry))) ⌝ }
+    ensures { λ r. ⌜ check.Checks (now (file .entry)) r ⌝ }
 {
     let head = pass_head(file);
     let Passed::At(first) = head else {

@@ -8,25 +8,9 @@ use Rattle.taxa.specs.Sets.{all}
 use Rattle.method.specs.Split.{Column}
 use Rattle.method.specs.Tree.{Group, Flips, Matrix, column, RootedTree, Fits}
 use Rattle.answer.specs.Content.{contentIn}
-use Rattle.split.specs.declared.Divided.{Divided}
-use Rattle.split.specs.Operation as split
-use Rattle.tree.specs.declared.Built.{Built}
 use Rattle.tree.specs.declared.Built.the-variants.{Taken}
 use Rattle.tree.specs.Lists as lists
-use Rattle.tree.specs.Build.{built, outputAfter, workspaceAfter}
-
--- ---- the contracts of build and split, each as one statement of all that the operation returns and leaves
-
--- What the build of a file returns and leaves.
-pub record Builds (file : List ℕ) (ws : List ℤ) (out : List ℕ) (r : Built) (ws′ : List ℤ) (out′ : List ℕ) : Type 0 where
-  pub answers : r ≡ built file (length ws) (length out)
-  pub output : out′ ≡ outputAfter file r out
-  pub workspace : ws′ ≡ workspaceAfter file r ws
-
--- What the split of a group of a file returns and leaves.
-pub record Splits (file : List ℕ) (S : ℕ) (ws : List ℤ) (r : Divided) (ws′ : List ℤ) : Type 0 where
-  pub answers : r ≡ split.divided file S (length ws)
-  pub workspace : ws′ ≡ split.workspaceAfter file r ws
+use Rattle.tree.specs.Build.{Builds}
 
 -- ---- a matrix file and its answer file
 

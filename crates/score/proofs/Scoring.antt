@@ -24,7 +24,7 @@ use Rattle.score.specs.declared.Lowers.{Lowers}
 use Rattle.score.specs.declared.Scored.{Scored}
 use Rattle.score.specs.declared.Scored.the-variants.{Taken, Refused}
 use Rattle.score.specs.Score.{leaf, nearestIn, nodeFor, raisesOf, lowersOf}
-use Rattle.score.specs.Operation.{nodeIn, agreed, scored, returned, scoreNumbers}
+use Rattle.score.specs.Operation.{nodeIn, agreed, scored, returned, Scores}
 
 -- ---- the groups in a value's places
 
@@ -73,23 +73,19 @@ module _ (matrix answer : List ℕ) (n m : ℕ) {a : Answer} (value : a ≡ answ
 
 -- ---- the operation
 
--- What the operation answers, and document 01's numbers for it.
-abbrev pub Outcome : List ℕ → List ℕ → Scored → Type 0
-Outcome matrix answer r = (r ≡ scored matrix answer) × (returned r ≡ scoreNumbers matrix answer)
-
 module _ (matrix answer : List ℕ) where
-  numbered : {r : Scored} → r ≡ scored matrix answer → Outcome matrix answer r
-  numbered e = (e, ap returned e)
+  numbered : {r : Scored} → r ≡ scored matrix answer → Scores matrix answer r
+  numbered e = record { answers = e; numbers = ap returned e }
 
-  pub matrix-refused : {why : Refusal} → checks.Refused why ≡ checked matrix → Outcome matrix answer (Refused why)
+  pub matrix-refused : {why : Refusal} → checks.Refused why ≡ checked matrix → Scores matrix answer (Refused why)
   unfolding scored
   matrix-refused e = numbered (rw (← e))
 
   module _ {n m : ℕ} (taken : checks.Taken n m ≡ checked matrix) where
-    pub answer-refused : {why : Refusal} → passed.Refused why ≡ fileTests answer → Outcome matrix answer (Refused why)
+    pub answer-refused : {why : Refusal} → passed.Refused why ≡ fileTests answer → Scores matrix answer (Refused why)
     unfolding scored
     answer-refused e = numbered (rw (← taken, ← e))
 
-    pub both-read : {here : Cursor} {r : Scored} → passed.At here ≡ fileTests answer → r ≡ agreed matrix answer n m → Outcome matrix answer r
+    pub both-read : {here : Cursor} {r : Scored} → passed.At here ≡ fileTests answer → r ≡ agreed matrix answer n m → Scores matrix answer r
     unfolding scored
     both-read e s = numbered (rw (← taken, ← e) s)

@@ -70,6 +70,11 @@ returned (Refused why) = record { number = why .number; place = why .place; rais
 abbrev pub scoreNumbers : List ℕ → List ℕ → Returned
 scoreNumbers matrix answer = returned (scored matrix answer)
 
+-- What the score of two files promises of its answer.
+pub record Scores (matrix answer : List ℕ) (r : Scored) : Type 0 where
+  pub answers : r ≡ scored matrix answer
+  pub numbers : returned r ≡ scoreNumbers matrix answer
+
 -- Both files were read.
 pub record Readable (matrix answer : List ℕ) (n m : ℕ) : Type 0 where
   pub taken : checks.Taken n m ≡ checked matrix

@@ -178,9 +178,7 @@ fn score_read(matrix: &[u8], answer: &[u8], n: u16, m: u16) -> Scored
 
 // The operation "score".
 pub fn score(matrix: &[u8], answer: &[u8]) -> Scored
-    ensures { λ r. ⌜
-        (r ≡ operation.scored (now (matrix .entry)) (now (answer .entry)))
-        × (operation.returned r ≡ operation.scoreNumbers (now (matrix .entry)) (now (answer .entry))) ⌝ }
+    ensures { λ r. ⌜ operation.Scores (now (matrix .entry)) (now (answer .entry)) r ⌝ }
 {
     let checked = matrix::check(matrix);
     match checked {

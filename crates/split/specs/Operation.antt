@@ -64,6 +64,12 @@ returned (Refused why) = record { number = why .number; place = why .place; cost
 abbrev pub splitNumbers : List ℕ → ℕ → ℕ → Returned
 splitNumbers file S room = returned (divided file S room)
 
+-- What the split of a group of a file promises of its answer and of the workspace at the end.
+pub record Splits (file : List ℕ) (S : ℕ) (ws : List ℤ) (r : Divided) (ws′ : List ℤ) : Type 0 where
+  pub answers : r ≡ divided file S (length ws)
+  pub numbers : returned r ≡ splitNumbers file S (length ws)
+  pub workspace : ws′ ≡ workspaceAfter file r ws
+
 -- What has been tested where nothing is refused.
 pub record Splittable (file : List ℕ) (S n m room : ℕ) : Type 0 where
   pub taken : checks.Taken n m ≡ checked file

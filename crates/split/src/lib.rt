@@ -14,7 +14,7 @@ ghost use Rattle.matrix.specs.Check.{checked};
 ghost use Rattle.matrix.specs.declared.Checked.the-variants as checks;
 ghost use Rattle.search.specs.Workspace.{cleared};
 ghost use Rattle.split.specs.Columns.{Parallel, matrixIn};
-ghost use Rattle.split.specs.Operation.{Splittable, splitOf, answered, divided, workspaceAfter, returned, splitNumbers};
+ghost use Rattle.split.specs.Operation.{Splittable, splitOf, answered, workspaceAfter, Splits};
 
 // What the split answers: the division's cost, its side A and the taxon t, or the refusal.
 pub enum Divided {
@@ -86,10 +86,7 @@ fn split_matrix(file: &[u8], group: u64, n: usize, m: usize, workspace: &mut [i3
 
 // The operation "split".
 pub fn split(file: &[u8], group: u64, workspace: &mut [i32]) -> Divided
-    ensures { λ r. ⌜
-        (r ≡ divided (now (file .entry)) group (length (now (workspace .entry))))
-        × (returned r ≡ splitNumbers (now (file .entry)) group (length (now (workspace .entry))))
-        × (now (workspace .exit) ≡ workspaceAfter (now (file .entry)) r (now (workspace .entry))) ⌝ }
+    ensures { λ r. ⌜ Splits (now (file .entry)) group (now (workspace .entry)) r (now (workspace .exit)) ⌝ }
 {
     let answer = matrix::check(file);
     match answer {

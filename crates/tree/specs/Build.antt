@@ -85,6 +85,13 @@ returned (Refused why) = record { number = why .number; place = why .place; size
 abbrev pub buildNumbers : List ℕ → ℕ → ℕ → Returned
 buildNumbers file space room = returned (built file space room)
 
+-- What the build of a file promises of its answer, and of the output and the workspace at the end.
+pub record Builds (file : List ℕ) (ws : List ℤ) (out : List ℕ) (r : Built) (ws′ : List ℤ) (out′ : List ℕ) : Type 0 where
+  pub answers : r ≡ built file (length ws) (length out)
+  pub numbers : returned r ≡ buildNumbers file (length ws) (length out)
+  pub output : out′ ≡ outputAfter file r out
+  pub workspace : ws′ ≡ workspaceAfter file r ws
+
 -- What has been tested where nothing is refused.
 pub record Buildable (file : List ℕ) (n m space room : ℕ) : Type 0 where
   pub taken : checks.Taken n m ≡ checked file

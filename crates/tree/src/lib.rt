@@ -22,7 +22,7 @@ ghost use Rattle.split.specs.Columns.{matrixIn};
 ghost use Rattle.method.specs.Tree.{ordered, flipList};
 ghost use Rattle.tree.specs.Lists.{firstGroups, unweighed};
 ghost use Rattle.tree.specs.Grow.{Walked, Answers};
-ghost use Rattle.tree.specs.Build.{contentWith, contentFor, takenOf, Buildable, Slices, answered, built, outputAfter, workspaceAfter, returned, buildNumbers};
+ghost use Rattle.tree.specs.Build.{contentWith, contentFor, takenOf, Buildable, Slices, answered, outputAfter, workspaceAfter, Builds};
 
 // What the build answers: the length written and the total, or the refusal.
 pub enum Built {
@@ -167,12 +167,7 @@ fn build_matrix(file: &[u8], n: u16, m: u16, workspace: &mut [i32], out: &mut [u
 
 // The operation "build".
 pub fn build(file: &[u8], workspace: &mut [i32], out: &mut [u8]) -> Built
-    ensures { λ r. ⌜
-        (r ≡ built (now (file .entry)) (length (now (workspace .entry))) (length (now (out .entry))))
-        × (returned r ≡ buildNumbers (now (file .entry)) (length (now (workspace .entry))) (length (now (out .entry)))) ⌝ }
-    ensures { λ r. ⌜
-        (now (out .exit) ≡ outputAfter (now (file .entry)) r (now (out .entry)))
-        × (now (workspace .exit) ≡ workspaceAfter (now (file .entry)) r (now (workspace .entry))) ⌝ }
+    ensures { λ r. ⌜ Builds (now (file .entry)) (now (workspace .entry)) (now (out .entry)) r (now (workspace .exit)) (now (out .exit)) ⌝ }
 {
     let answer = matrix::check(file);
     match answer {

@@ -28,13 +28,13 @@ enum-known-answer-2 : tie.Need-enum-known-answer-2
 enum-known-answer-2 c = search needs
 
 pack-refusal-requires : tie.Need-pack-refusal-requires
-pack-refusal-requires c κs = omega (arith, refusal-small _ (sym (c .before .answer2 .given .1) ∙ c .before .before .before .check .ensures .0))
+pack-refusal-requires c κs = omega (arith, refusal-small _ (sym (c .before .answer2 .given .1) ∙ c .before .before .before .check .ensures .answers))
 
 returns : tie.Need-returns
-returns c = rw (← c .before .before .before .check .ensures .0, c .before .answer .given .1)
+returns c = rw (← c .before .before .before .check .ensures .answers, c .before .answer .given .1)
 
 returns-2 : tie.Need-returns-2
-returns-2 c = let told = c .before .before in rw (c .pack-refusal .ensures, ← told .before .before .check .ensures .0, told .answer2 .given .1)
+returns-2 c = let told = c .before .before in rw (c .pack-refusal .ensures, ← told .before .before .check .ensures .answers, told .answer2 .given .1)
 
 pub flipcut-check-spec : {M : Type 1} → statement M
 flipcut-check-spec =

@@ -35,15 +35,15 @@ bytes c = record { byte = λ i. omega (arith, c .shared-slice-known .given i) }
 pack-refusal-requires : tie.Need-pack-refusal-requires
 pack-refusal-requires c κs =
     let at = c .before .before .before in
-    let e = sym (c .before .counted2 .given .1) ∙ at .score .ensures .0 in
+    let e = sym (c .before .counted2 .given .1) ∙ at .score .ensures .answers in
     let small = rw (← e) at (score-small (bytes (at .before .before)) (at .before .before .before .args .answer .now)) in
     omega (arith, small .0)
 
 returns : tie.Need-returns
-returns c = let told = c .before .before .before in rw (← told .before .before .score .ensures .0, told .counted .given .1)
+returns c = let told = c .before .before .before in rw (← told .before .before .score .ensures .answers, told .counted .given .1)
 
 returns-2 : tie.Need-returns-2
-returns-2 c = let told = c .before .before in rw (c .pack-refusal .ensures, ← told .before .before .score .ensures .0, told .counted2 .given .1)
+returns-2 c = let told = c .before .before in rw (c .pack-refusal .ensures, ← told .before .before .score .ensures .answers, told .counted2 .given .1)
 
 pub flipcut-score-spec : {M : Type 1} → statement M
 flipcut-score-spec =

@@ -8,7 +8,7 @@ use Rattle.record.specs.declared.Passed.the-variants.{At}
 use Rattle.taxa.specs.Sets.{all}
 use Rattle.record.specs.Bytes.{numberAt}
 use Rattle.matrix.specs.declared.Checked.{Checked}
-use Rattle.matrix.specs.Check.{headPassed, columnsPassed, checked, returned, checkNumbers}
+use Rattle.matrix.specs.Check.{headPassed, columnsPassed, checked, returned, Checks}
 use Rattle.matrix.proofs.Passing.{Head, head}
 use Rattle.matrix.proofs.Judging.{head-refused, columns-refused, end-refused, all-passed}
 use Rattle.matrix.proofs.check.Statement.{statement}
@@ -27,8 +27,8 @@ refusal-requires : tie.Need-refusal-requires
 refusal-requires c κs = search needs
 
 -- The case and its numbers.
-answers : (file : List ℕ) {r : Checked} → r ≡ checked file → (r ≡ checked file) × (returned r ≡ checkNumbers file)
-answers file e = (e, ap returned e)
+checks : (file : List ℕ) {r : Checked} → r ≡ checked file → Checks file r
+checks file e = record { answers = e; numbers = ap returned e }
 
 -- The head was passed.
 passed-head : (c : tie.After-known-told) → headPassed (c .before .before .before .before .before .args .file .now) ≡ At (c .before .head .given .0 .0)
@@ -40,7 +40,7 @@ known c = head _ (sym (passed-head c))
 returns : tie.Need-returns
 returns c =
     let told = c .before in
-    answers _ (rw (c .refusal .ensures) (head-refused _ (rw (told .enum-told .given .1) (sym (told .before .before .pass-head .ensures) ∙ told .enum-told .given .1))))
+    checks _ (rw (c .refusal .ensures) (head-refused _ (rw (told .enum-told .given .1) (sym (told .before .before .pass-head .ensures) ∙ told .enum-told .given .1))))
 
 u16-at-requires : tie.Need-u16-at-requires
 u16-at-requires c κs = let h = known c in omega arith
@@ -79,7 +79,7 @@ returns-2 : tie.Need-returns-2
 returns-2 c =
     let told = c .before in
     let columns = told .before .before in
-    answers _ (rw (c .refusal2 .ensures) (columns-refused _ (passed-head (columns .before .before .before .before)) (rw (told .enum-told2 .given .1) (columns-are columns ∙ told .enum-told2 .given .1))))
+    checks _ (rw (c .refusal2 .ensures) (columns-refused _ (passed-head (columns .before .before .before .before)) (rw (told .enum-told2 .given .1) (columns-are columns ∙ told .enum-told2 .given .1))))
 
 pass-end-requires : tie.Need-pass-end-requires
 pass-end-requires c κs = search needs
@@ -99,7 +99,7 @@ returns-3 c =
     let end = told .before .before in
     let passed = end .before .before in
     let columns = passed .before .before in
-    answers _ (rw (c .refusal3 .ensures) (end-refused _ (passed-head (columns .before .before .before .before)) (columns-are columns ∙ passed .columns .given .1) (rw (told .enum-told4 .given .1) (sym (end .pass-end .ensures) ∙ told .enum-told4 .given .1))))
+    checks _ (rw (c .refusal3 .ensures) (end-refused _ (passed-head (columns .before .before .before .before)) (columns-are columns ∙ passed .columns .given .1) (rw (told .enum-told4 .given .1) (sym (end .pass-end .ensures) ∙ told .enum-told4 .given .1))))
 
 returns-4 : tie.Need-returns-4
 returns-4 c =
@@ -107,7 +107,7 @@ returns-4 c =
     let passed = end .before .before in
     let columns = passed .before .before in
     let m = columns .before .before in
-    answers _ (rw (m .before .u16-at .ensures, m .u16-at2 .ensures) (all-passed _ (passed-head (m .before .before)) (columns-are columns ∙ passed .columns .given .1) (sym (end .pass-end .ensures) ∙ c .enum-told3 .given .1)))
+    checks _ (rw (m .before .u16-at .ensures, m .u16-at2 .ensures) (all-passed _ (passed-head (m .before .before)) (columns-are columns ∙ passed .columns .given .1) (sym (end .pass-end .ensures) ∙ c .enum-told3 .given .1)))
 
 pub check-spec : {M : Type 1} → statement M
 check-spec =

@@ -33,7 +33,7 @@ refusal-requires c κs = search needs
 
 -- The matrix was taken.
 checks : (c : tie.After-checked2) → Taken (c .checked2 .given .0 .0) (c .checked2 .given .0 .1 .0) ≡ checked (c .before .before .before .before .before .args .matrix .now)
-checks c = sym (c .checked2 .given .1) ∙ c .before .before .check .ensures .0
+checks c = sym (c .checked2 .given .1) ∙ c .before .before .check .ensures .answers
 
 returns : tie.Need-returns
 returns c =
@@ -49,7 +49,7 @@ score-read-requires : tie.Need-score-read-requires
 score-read-requires c κs = record { taken = checks (c .before .before .before .before); here = _; passes = passes c }
 
 returns-2 : tie.Need-returns-2
-returns-2 c = let told = c .before in matrix-refused _ _ (sym (told .checked .given .1) ∙ told .before .before .check .ensures .0)
+returns-2 c = let told = c .before in matrix-refused _ _ (sym (told .checked .given .1) ∙ told .before .before .check .ensures .answers)
 
 returns-3 : tie.Need-returns-3
 returns-3 c = let told = c .before in both-read _ _ (checks (told .before .before .before .before)) (passes told) (c .score-read .ensures)

@@ -18,7 +18,7 @@ cast-split-matrix-2 : tie.Need-cast-split-matrix-2
 cast-split-matrix-2 c = search needs
 
 split-matrix-requires : tie.Need-split-matrix-requires
-split-matrix-requires c κs = sym (c .before .before .answer .given .1) ∙ c .before .before .before .before .check .ensures .0
+split-matrix-requires c κs = sym (c .before .before .answer .given .1) ∙ c .before .before .before .before .check .ensures .answers
 
 enum-known-answer-2 : tie.Need-enum-known-answer-2
 enum-known-answer-2 c = search needs
@@ -30,14 +30,14 @@ returns : tie.Need-returns
 returns c =
     let made = c .before .split-matrix .ensures in
     let told = c .before .before .before .before in
-    let whole = outcome _ _ _ (sym (told .answer .given .1) ∙ told .before .before .check .ensures .0) (made .0) in
-    (whole .0, whole .1, made .1)
+    let whole = outcome _ _ _ (sym (told .answer .given .1) ∙ told .before .before .check .ensures .answers) (made .0) in
+    record { answers = whole .0; numbers = whole .1; workspace = made .1 }
 
 returns-2 : tie.Need-returns-2
 returns-2 c =
     let told = c .before in
-    let whole = outcome _ _ _ (sym (told .answer2 .given .1) ∙ told .before .before .check .ensures .0) (file-refused _ _ _ _) in
-    (whole .0, whole .1, left-alone _ _ _)
+    let whole = outcome _ _ _ (sym (told .answer2 .given .1) ∙ told .before .before .check .ensures .answers) (file-refused _ _ _ _) in
+    record { answers = whole .0; numbers = whole .1; workspace = left-alone _ _ _ }
 
 pub split-spec : {M : Type 1} → statement M
 split-spec =

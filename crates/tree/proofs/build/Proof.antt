@@ -12,7 +12,7 @@ enum-known-answer : tie.Need-enum-known-answer
 enum-known-answer c = search needs
 
 build-matrix-requires : tie.Need-build-matrix-requires
-build-matrix-requires c κs = sym (c .before .before .before .answer .given .1) ∙ c .before .before .before .before .before .check .ensures .0
+build-matrix-requires c κs = sym (c .before .before .before .answer .given .1) ∙ c .before .before .before .before .before .check .ensures .answers
 
 enum-known-answer-2 : tie.Need-enum-known-answer-2
 enum-known-answer-2 c = search needs
@@ -27,12 +27,14 @@ returns : tie.Need-returns
 returns c =
     let made = c .before .before .before .build-matrix .ensures in
     let told = c .before .before .before .before .before .before .before in
-    (outcome _ _ _ (sym (told .answer .given .1) ∙ told .before .before .check .ensures .0) (made .0), (made .1, made .2))
+    let whole = outcome _ _ _ (sym (told .answer .given .1) ∙ told .before .before .check .ensures .answers) (made .0) in
+    record { answers = whole .0; numbers = whole .1; output = made .1; workspace = made .2 }
 
 returns-2 : tie.Need-returns-2
 returns-2 c =
     let told = c .before in
-    (outcome _ _ _ (sym (told .answer2 .given .1) ∙ told .before .before .check .ensures .0) (refused-row _ _ _ _), (output-left _ _ _, workspace-left _ _ _))
+    let whole = outcome _ _ _ (sym (told .answer2 .given .1) ∙ told .before .before .check .ensures .answers) (refused-row _ _ _ _) in
+    record { answers = whole .0; numbers = whole .1; output = output-left _ _ _; workspace = workspace-left _ _ _ }
 
 pub build-spec : {M : Type 1} → statement M
 build-spec =
