@@ -31,7 +31,7 @@ use Rattle.split.proofs.Soundness.{taken-sound}
 use Rattle.tree.specs.declared.Built.{Built}
 use Rattle.tree.specs.declared.Built.the-variants.{Taken, Refused}
 use Rattle.tree.specs.Lists as lists
-use Rattle.tree.specs.Build.{contentFor, roomFor, takenOf, answered, built, outputAfter, workspaceAfter}
+use Rattle.tree.specs.Build.{contentFor, roomFor, takenOf, answered, built, outputAfter, workspaceAfter, returned}
 use Rattle.tree.proofs.Rules.{answer-legal}
 use Rattle.promises.specs.Held.{Leaves, groupsIn, flipsIn, totalIn}
 use Rattle.promises.proofs.Bytes.{file-bytes}
@@ -113,6 +113,7 @@ pub build-leaves : {file : List ℕ} {n m : ℕ} → checks.Taken n m ≡ checke
 unfolding built answered outputAfter
 build-leaves {file} {n} {m} taken ws out l k =
     let c = contentFor (matrixIn file) in
+    let answers : takenOf file ≡ built file (length ws) (length out) = rw (← taken, le-ltb _ _ l, le-ltb _ _ k) in
     record {
       ws = ws;
       out = out;
@@ -120,7 +121,7 @@ build-leaves {file} {n} {m} taken ws out l k =
       sum = c .total;
       ws′ = workspaceAfter file (takenOf file) ws;
       out′ = outputAfter file (takenOf file) out;
-      builds = record { answers = rw (← taken, le-ltb _ _ l, le-ltb _ _ k); output = refl; workspace = refl };
+      builds = record { answers = answers; numbers = ap returned answers; output = refl; workspace = refl };
       bytes = sym (front-is (fileOf c) out (lengthOf c) (length-file c));
     }
 

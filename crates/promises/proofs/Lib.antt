@@ -1,7 +1,9 @@
 -- The theorems, by demand.
 pub mod Bytes
+pub mod Numbers
 pub mod Refusals
 pub mod Answers
 pub mod OneAnswer
 pub mod Tree
+pub mod Score
 pub mod Specimens

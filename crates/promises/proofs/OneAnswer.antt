@@ -8,12 +8,12 @@ use Rattle.record.specs.Bytes.{File}
 use Rattle.record.specs.declared.Cursor.{Cursor}
 use Rattle.record.specs.declared.Passed.the-variants.{At}
 use Rattle.record.proofs.Passing.{through}
-use Rattle.score.specs.Operation.{scored}
+use Rattle.score.specs.Operation.{Scores}
 use Rattle.score.specs.declared.Scored.{Scored}
 use Rattle.matrix.specs.declared.Checked.{Checked}
 use Rattle.matrix.specs.declared.Checked.the-variants as checks
 use Rattle.matrix.specs.Matrix.{matrixOf}
-use Rattle.matrix.specs.Check.{checked}
+use Rattle.matrix.specs.Check.{checked, Checks}
 use Rattle.matrix.proofs.Taken.{same-matrix-same-file}
 use Rattle.answer.specs.declared.Reading.{Reading}
 use Rattle.answer.specs.declared.Verdict.the-variants as verdict
@@ -27,7 +27,7 @@ use Rattle.split.specs.declared.Divided.{Divided}
 use Rattle.split.specs.Operation as split
 use Rattle.tree.specs.declared.Built.{Built}
 use Rattle.tree.specs.Build as build
-use Rattle.promises.specs.Held.{Builds, Splits, Leaves}
+use Rattle.promises.specs.Held.{Leaves}
 use Rattle.promises.proofs.Answers.{leaves-file}
 
 -- ---- "one matrix, one answer"
@@ -38,13 +38,13 @@ one-answer b b′ = leaves-file b ∙ sym (leaves-file b′)
 
 -- ---- two results that a contract allows coincide
 
-pub one-check : (file : List ℕ) {r r′ : Checked} → r ≡ checked file → r′ ≡ checked file → r ≡ r′
-one-check file e e′ = e ∙ sym e′
+pub one-check : {file : List ℕ} {r r′ : Checked} → Checks file r → Checks file r′ → r ≡ r′
+one-check x y = x .answers ∙ sym (y .answers)
 
-pub one-score : (matrix answer : List ℕ) {r r′ : Scored} → r ≡ scored matrix answer → r′ ≡ scored matrix answer → r ≡ r′
-one-score matrix answer e e′ = e ∙ sym e′
+pub one-score : {matrix answer : List ℕ} {r r′ : Scored} → Scores matrix answer r → Scores matrix answer r′ → r ≡ r′
+one-score x y = x .answers ∙ sym (y .answers)
 
-pub one-build : {file out : List ℕ} {ws : List ℤ} {r r′ : Built} {ws′ ws″ : List ℤ} {out′ out″ : List ℕ} → Builds file ws out r ws′ out′ → Builds file ws out r′ ws″ out″
+pub one-build : {file out : List ℕ} {ws : List ℤ} {r r′ : Built} {ws′ ws″ : List ℤ} {out′ out″ : List ℕ} → build.Builds file ws out r ws′ out′ → build.Builds file ws out r′ ws″ out″
     → (r ≡ r′) × (ws′ ≡ ws″) × (out′ ≡ out″)
 one-build {file} {out} {ws} x y =
     let same = x .answers ∙ sym (y .answers) in (
@@ -53,7 +53,7 @@ one-build {file} {out} {ws} x y =
       x .output ∙ ap (λ (r : Built). build.outputAfter file r out) same ∙ sym (y .output),
     )
 
-pub one-split : {file : List ℕ} {S : ℕ} {ws : List ℤ} {r r′ : Divided} {ws′ ws″ : List ℤ} → Splits file S ws r ws′ → Splits file S ws r′ ws″ → (r ≡ r′) × (ws′ ≡ ws″)
+pub one-split : {file : List ℕ} {S : ℕ} {ws : List ℤ} {r r′ : Divided} {ws′ ws″ : List ℤ} → split.Splits file S ws r ws′ → split.Splits file S ws r′ ws″ → (r ≡ r′) × (ws′ ≡ ws″)
 one-split {file} {S} {ws} x y =
     let same = x .answers ∙ sym (y .answers) in
     (same, x .workspace ∙ ap (λ (r : Divided). split.workspaceAfter file r ws) same ∙ sym (y .workspace))

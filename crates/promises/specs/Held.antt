@@ -1,16 +1,29 @@
 -- What people hold: a matrix file, and the answer file that the build leaves, with its groups, its flips and its total.
 use mathlib.Core.Path.{_≡_}
 use mathlib.Core.List.{List}
-use Prim.Native.Nat.{ℕ}
+use mathlib.Core.Logic.{_↔_}
+use Prim.Native.Nat.{ℕ, _<_}
 use lib.IntN.{ℤ}
 use lib.ListN.{length, take}
-use Rattle.taxa.specs.Sets.{all}
+use Rattle.taxa.specs.Sets.{_∈_, low, all}
+use Rattle.method.specs.Flow.{Flow, Reach, arcs, limits}
 use Rattle.method.specs.Split.{Column}
 use Rattle.method.specs.Tree.{Group, Flips, Matrix, column, RootedTree, Fits}
 use Rattle.answer.specs.Content.{contentIn}
+use Rattle.search.specs.Workspace.{outs, inns}
+use Rattle.split.specs.Groups.{IsSplit}
 use Rattle.tree.specs.declared.Built.the-variants.{Taken}
 use Rattle.tree.specs.Lists as lists
 use Rattle.tree.specs.Build.{Builds}
+
+-- ---- the flow search
+
+-- Of a group S of n taxa and m columns: "before it is cleared, the workspace holds a flow of the division's cost from s to t, and [..] side A is the
+-- taxa still reachable from s past that flow"; cost, side and t are the method's.
+pub record FlowStands (n m : ℕ) (cols : ℕ → Column) (S : ℕ) (ws : List ℤ) (cost A t : ℕ) : Type 0 where
+  pub flow : Flow n m (arcs n m cols S) (limits n m cols S) (outs ws n) (inns ws n) (low n S) t cost
+  pub reached : (i : ℕ) → i < n → i ∈ A ↔ Reach n m (arcs n m cols S) (limits n m cols S) (outs ws n) (inns ws n) (low n S) i
+  pub is-split : IsSplit m cols S cost A t
 
 -- ---- a matrix file and its answer file
 

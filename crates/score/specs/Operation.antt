@@ -19,9 +19,13 @@ use Rattle.score.specs.declared.Raises.{Raises}
 use Rattle.score.specs.declared.Lowers.{Lowers}
 use Rattle.score.specs.declared.Scored.{Scored}
 use Rattle.score.specs.declared.Scored.the-variants.{Taken, Refused}
-use Rattle.score.specs.Score.{nodeFor, raisesOf, lowersOf}
+use Rattle.score.specs.Score.{Node, nodeFor, raisesOf, lowersOf}
 
--- The node of the tree in an answer file that counts for a column.
+-- The nodes of the tree in an answer file.
+abbrev pub NodeIn : List ℕ → ℕ → Type 0
+NodeIn answer = let a = contentIn answer in Node (a .n) (a .taxa) (a .groups)
+
+-- The one that counts for a column.
 abbrev pub nodeIn : List ℕ → Column → ℕ
 nodeIn answer = let a = contentIn answer in nodeFor (a .n) (a .taxa) (a .groups)
 
