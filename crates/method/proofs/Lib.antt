@@ -31,4 +31,3 @@ pub mod Filling
 pub mod Fitting
 pub mod FlipList
 pub mod Promises
-pub mod Specimens

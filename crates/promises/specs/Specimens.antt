@@ -122,6 +122,9 @@ table =
     -- 1
     answers first 112 2 firstAnswer
     ∷ scores first firstAnswer 0 2
+    -- "One flip would do, so total is not the least overall": with taxon 1 lowered in column 1, of weight 1, there is nothing left to flip.
+    ∷ answers (head 4 3 ++ column 1 0b0011 0b1100 ++ column 1 0b0100 0b1011 ++ column 2 0b1100 0b0011 ++ end) 68 0
+    (answerHead 4 3 3 0 0 ++ group 0xf 0 ++ group 3 0 ++ group 0xc 0 ++ answerEnd)
     -- 2
     ∷ answers (head 3 2 ++ column 1 0b011 0b100 ++ column 1 0b110 0b001 ++ end) 74 1
     (answerHead 3 2 2 1 1 ++ group 7 1 ++ group 6 0 ++ flips 0 0b100 0 ++ answerEnd)

@@ -3,7 +3,7 @@
 // Rests on taxa, record, matrix, method and search.
 pub mod columns;
 pub mod group;
-pub mod parts;
+mod parts;
 
 use matrix::Checked;
 use record::Refusal;
