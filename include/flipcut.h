@@ -5,8 +5,8 @@
  * (the table of document 01). Where it is clear the call succeeded, and the
  * functions named below take the result apart.
  *
- * A file is a pointer and a length in bytes. The pointer is never null, not
- * even for a length of 0. Nothing is written through it and nothing is kept.
+ * A file is a pointer and a length in bytes; a null pointer is the empty file.
+ * Nothing is written through it and nothing is kept.
  */
 #ifndef FLIPCUT_H
 #define FLIPCUT_H
@@ -30,6 +30,31 @@ uint64_t flipcut_score(const uint8_t *matrix, size_t matrix_len, const uint8_t *
 #ifdef __cplusplus
 }
 #endif
+
+/* The functions of the library take no null pointer, and C passes one for an empty file. So a call of
+ * theirs by name goes through a function here, which lends a byte of its own and says that it has none. */
+static inline const uint8_t *flipcut_bytes(const uint8_t *file) {
+    static const uint8_t nothing = 0;
+    return file == NULL ? &nothing : file;
+}
+
+static inline size_t flipcut_length(const uint8_t *file, size_t len) {
+    return file == NULL ? 0 : len;
+}
+
+static inline uint64_t flipcut_check_file(const uint8_t *file, size_t len) {
+    return flipcut_check(flipcut_bytes(file), flipcut_length(file, len));
+}
+
+static inline uint64_t flipcut_score_files(const uint8_t *matrix, size_t matrix_len, const uint8_t *answer,
+                                           size_t answer_len) {
+    return flipcut_score(flipcut_bytes(matrix), flipcut_length(matrix, matrix_len), flipcut_bytes(answer),
+                         flipcut_length(answer, answer_len));
+}
+
+#define flipcut_check(file, len) flipcut_check_file(file, len)
+#define flipcut_score(matrix, matrix_len, answer, answer_len) \
+    flipcut_score_files(matrix, matrix_len, answer, answer_len)
 
 /* The bits of a packed number from `low` on, `width` of them. */
 static inline uint64_t flipcut_bits(uint64_t packed, unsigned low, unsigned width) {

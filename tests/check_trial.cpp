@@ -16,8 +16,8 @@ namespace {
 using oracle::Bytes;
 using oracle::CheckOutcome;
 
-// As C calls it.
-std::uint64_t called(const Bytes& file) { return flipcut_check(start_of(file), file.size()); }
+// As C calls it: the empty file by a null pointer.
+std::uint64_t called(const Bytes& file) { return flipcut_check(bytes_of(file), file.size()); }
 
 // Through the header's functions.
 CheckOutcome unpacked(std::uint64_t packed) {

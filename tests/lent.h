@@ -3,6 +3,7 @@
 
 #include <algorithm>
 #include <cstddef>
+#include <cstdint>
 #include <vector>
 
 #include "gen/random.h"
@@ -13,6 +14,9 @@ const T* start_of(const std::vector<T>& list) {
     static const T nothing{};
     return list.empty() ? &nothing : list.data();
 }
+
+// A file as C has it: where it is empty, a null pointer.
+inline const std::uint8_t* bytes_of(const std::vector<std::uint8_t>& file) { return file.empty() ? nullptr : file.data(); }
 
 // A lent buffer full of noise, with a margin behind it that belongs to nobody.
 template <class T>

@@ -17,7 +17,7 @@ using oracle::Bytes;
 using oracle::ScoreOutcome;
 
 std::uint64_t called(const ScoreCase& given) {
-    return flipcut_score(start_of(given.matrix), given.matrix.size(), start_of(given.answer), given.answer.size());
+    return flipcut_score(bytes_of(given.matrix), given.matrix.size(), bytes_of(given.answer), given.answer.size());
 }
 
 // Through the header's functions.

@@ -1,5 +1,6 @@
--- The packed numbers: "bit 63 clear is success, set is refusal. Refusal: number in bits 0 to 7, place in bits 8 to 62. Check: n in bits 0 to
--- 15, m in bits 16 to 31. Score: lowers in bits 0 to 30, raises in bits 31 to 61." include/flipcut.h unpacks them by `unpacked` and `unpackedScore`.
+-- The packed numbers that C gets, one of 64 bits for each call. Bit 63 says whether the call was refused. If it was, bits 0 to 7 are the refusal's number
+-- and bits 8 to 62 its place. If not: of the check, n is in bits 0 to 15 and m in bits 16 to 31; of the score, lowers are in bits 0 to 30 and raises in
+-- bits 31 to 61. include/flipcut.h takes them apart as `unpacked` and `unpackedScore` do.
 use mathlib.Core.Bool.{cond}
 use Prim.Native.Nat.{ℕ, _+_, _*_, _/_, _%_, _^_}
 use lib.Dec.{eqb}
