@@ -1,10 +1,11 @@
--- The file of a legal content is taken (`file-taken`) and holds that content (`file-holds`).
+-- The file of a lawful content is taken (`file-taken`) and holds that content (`file-holds`).
 use mathlib.Core.Path.{_≡_, refl, sym, ap, _∙_}
 use mathlib.Core.List.{List, [], _++_, append-assoc, append-nil}
 use Prim.Native.Nat.{ℕ, _+_, _*_, _^_, _<_}
 use native.Mathlib.Omega.{arith}
 use lib.Dec.{lit<}
 use lib.ListN.{getD, drop, length-append}
+use Rattle.taxa.specs.Sets.{_⊆_, all}
 use Rattle.taxa.proofs.Members.{set-fits}
 use Rattle.taxa.proofs.Sums.{sum-next, sum-mono}
 use Rattle.record.specs.Bytes.{numberAt, bytesOf}
@@ -17,50 +18,35 @@ use Rattle.record.specs.declared.Passed.the-variants.{At}
 use Rattle.record.proofs.Numbers.{length-bytes, field-read}
 use Rattle.record.proofs.Steps.{content-stands, record-taken, none-after}
 use Rattle.answer.specs.Content.{Content, run, headBytes, groupBytes, flipsBytes, endBytes, groupRecord, flipsRecord, fileOf, lengthOf, contentIn, groupCount, flipCount, taxaIn, costsIn, columnsFrom, raisedFrom, loweredFrom, flipsStart}
-use Rattle.answer.specs.Rules.{floorOf, totalFault, sumOf}
-use Rattle.answer.specs.Tests.{inFile, asGiven, walk, headTest, groupTest, entryTest, flipsTest, endTest, tests, Legal}
+use Rattle.answer.specs.Lawful.{Lawful}
+use Rattle.answer.specs.Tests.{inFile, asGiven, walk, headTest, groupTest, entryTest, flipsTest, endTest, tests}
 use Rattle.answer.specs.Reading.{fileTests}
-use Rattle.answer.proofs.Kept.{HeadKept, GroupKept, group-keeps, EntryKept, total-keeps}
 use Rattle.answer.proofs.Runs.{run-holds, run-past, entries-are}
 use Rattle.answer.proofs.Pieces.{length-group, length-flips, length-file}
-use Rattle.answer.proofs.Walks.{walk-each, walk-carries, through-judge, given-head, given-group, given-entry, given-groups-move, given-flips-move}
+use Rattle.answer.proofs.Walks.{walk-carries, given-head, given-group, given-entry, given-groups-move, given-flips-move}
 use Rattle.answer.proofs.Stages.{Staged, staged, ends-with}
 use Rattle.answer.proofs.Files.{ends}
-use Rattle.answer.proofs.Outcomes.{given-head-kept, given-entry-kept}
+use Rattle.answer.proofs.Meaning.{fewer-groups, passes-exactly}
 
 -- A record that a step takes is met in a file as it is met as given.
 alike : (file : List ℕ) (kind : ℕ) (here : Cursor) (go : Cursor → Passed) {at : ℕ} → Payload at (record { at = here .at + 4 + payload kind }) ≡ step file (here .at) (recordOf kind)
     → asGiven kind here go ≡ inFile file kind here go
 alike file kind here go e = rw (← e)
 
-module _ {c : Content} (legal : Legal c) where
+module _ {c : Content} (lawful : Lawful c) where
   abbrev file : List ℕ
   file = fileOf c
 
   abbrev stages : Staged asGiven c (c .flips) (record { at = lengthOf c })
-  stages = staged asGiven c (c .flips) (legal .passes)
+  stages = staged asGiven c (c .flips) (passes-exactly (lawful .sized) .1 lawful)
 
-  pub head-kept : HeadKept (c .n) (c .m) (c .groups) (c .flips) (c .flips)
-  head-kept = given-head-kept c (c .flips) [] (legal .passes)
-
-  pub group-kept : (i : ℕ) → i < c .groups → GroupKept (c .n) (c .taxa) i
-  group-kept i l =
-      let it = walk-each (groupTest asGiven (c .n) (c .taxa)) (stages .first) (c .groups) (stages .groups-passed) i l in
-      group-keeps _ _ _ (given-group (c .n) (c .taxa) i (it .here) (it .passed) .0)
-
-  pub entry-kept : (j : ℕ) → j < c .flips → EntryKept (c .n) (c .m) (floorOf (c .columns) j) (getD (c .columns) j 0) (getD (c .raised) j 0) (getD (c .lowered) j 0)
-  entry-kept j l = given-entry-kept c (c .flips) [] (legal .passes) j l
-
-  pub total-is-sum : c .total ≡ sumOf (c .costs) (c .groups)
-  unfolding endTest
-  total-is-sum =
-      let (none, same) = through-judge (totalFault (c .total) (c .costs) (c .groups)) _ _ (stages .end-passed) in
-      total-keeps (c .total) (c .costs) (c .groups) none
+  known-fits : {x : ℕ} → x ⊆ all (c .n) → x < 256 ^ 8
+  known-fits = set-fits (lawful .head-lawful .few-taxa)
 
   -- Each cost is at most the total.
   cost-fits : (i : ℕ) → i < c .groups → getD (c .costs) i 0 < 256 ^ 4
   cost-fits i l =
-      omega (arith, total-is-sum, sum-next i (λ i. getD (c .costs) i 0), sum-mono (λ i. getD (c .costs) i 0) {j = i + 1} {k = c .groups} (omega arith), legal .total-fits)
+      omega (arith, lawful .total-is-sum, sum-next i (λ i. getD (c .costs) i 0), sum-mono (λ i. getD (c .costs) i 0) {j = i + 1} {k = c .groups} (omega arith), lawful .sized .total-fits)
 
   -- ---- the head
 
@@ -79,13 +65,13 @@ module _ {c : Content} (legal : Legal c) where
 
   numbers : (numberAt 2 file 4 ≡ c .n) × (numberAt 2 file 6 ≡ c .m) × (groupCount file ≡ c .groups) × (flipCount file ≡ c .flips) × (numberAt 4 file 12 ≡ c .total) × (drop 16 file ≡ after-head)
   numbers =
-      let k = head-kept in
+      let h = lawful .head-lawful in
       let start = simp append-assoc at (content-stands file head-payload after-head 0 (recordOf records.answerHead) head-stands) in
-      let (n-is, e₁) = field-read 2 (c .n) file (bytesOf 2 (c .m) ++ (bytesOf 2 (c .groups) ++ (bytesOf 2 (c .flips) ++ (bytesOf 4 (c .total) ++ after-head)))) 4 {after = 6} (omega (arith, k .few)) start refl in
-      let (m-is, e₂) = field-read 2 (c .m) file (bytesOf 2 (c .groups) ++ (bytesOf 2 (c .flips) ++ (bytesOf 4 (c .total) ++ after-head))) 6 {after = 8} (omega (arith, k .columns)) e₁ refl in
-      let (g-is, e₃) = field-read 2 (c .groups) file (bytesOf 2 (c .flips) ++ (bytesOf 4 (c .total) ++ after-head)) 8 {after = 10} (omega (arith, k .few, k .fewer)) e₂ refl in
-      let (f-is, e₄) = field-read 2 (c .flips) file (bytesOf 4 (c .total) ++ after-head) 10 {after = 12} (omega (arith, k .columns, k .flips-fit)) e₃ refl in
-      let (t-is, e₅) = field-read 4 (c .total) file after-head 12 {after = 16} (legal .total-fits) e₄ refl in
+      let (n-is, e₁) = field-read 2 (c .n) file (bytesOf 2 (c .m) ++ (bytesOf 2 (c .groups) ++ (bytesOf 2 (c .flips) ++ (bytesOf 4 (c .total) ++ after-head)))) 4 {after = 6} (omega (arith, h .few-taxa)) start refl in
+      let (m-is, e₂) = field-read 2 (c .m) file (bytesOf 2 (c .groups) ++ (bytesOf 2 (c .flips) ++ (bytesOf 4 (c .total) ++ after-head))) 6 {after = 8} (omega (arith, h .few-columns)) e₁ refl in
+      let (g-is, e₃) = field-read 2 (c .groups) file (bytesOf 2 (c .flips) ++ (bytesOf 4 (c .total) ++ after-head)) 8 {after = 10} (omega (arith, h .few-taxa, fewer-groups lawful)) e₂ refl in
+      let (f-is, e₄) = field-read 2 (c .flips) file (bytesOf 4 (c .total) ++ after-head) 10 {after = 12} (omega (arith, h .few-columns, h .few-flips)) e₃ refl in
+      let (t-is, e₅) = field-read 4 (c .total) file after-head 12 {after = 16} (lawful .sized .total-fits) e₄ refl in
       (n-is, m-is, g-is, f-is, t-is, e₅)
 
   head-alike : headTest asGiven (c .n) (c .m) (c .groups) (c .flips) (c .flips) ≡ headTest (inFile file) (c .n) (c .m) (c .groups) (c .flips) (c .flips)
@@ -109,7 +95,7 @@ module _ {c : Content} (legal : Legal c) where
         let (r, e) = group-at i l in
         let at : 16 + 16 * i + 4 ≡ 20 + 16 * i = omega arith in
         let start = rw at at (simp append-assoc at (content-stands file group-payload r (16 + 16 * i) (recordOf records.group) e)) in
-        let (t-is, e₁) = field-read 8 (getD (c .taxa) i 0) file (bytesOf 4 (getD (c .costs) i 0) ++ r) (20 + 16 * i) {after = 28 + 16 * i} (set-fits (head-kept .few) (group-kept i l .known)) start (omega arith) in
+        let (t-is, e₁) = field-read 8 (getD (c .taxa) i 0) file (bytesOf 4 (getD (c .costs) i 0) ++ r) (20 + 16 * i) {after = 28 + 16 * i} (known-fits (lawful .groups-lawful .known i l)) start (omega arith) in
         let (c-is, e₂) = field-read 4 (getD (c .costs) i 0) file r (28 + 16 * i) {after = 32 + 16 * i} (cost-fits i l) e₁ (omega arith) in
         (t-is, c-is)
 
@@ -146,12 +132,12 @@ module _ {c : Content} (legal : Legal c) where
     unfolding flipsBytes
     entry-fields =
         let (r, e) = entry-at j l in
-        let k = entry-kept j l in
+        let k = lawful .flips-lawful in
         let at = flips-at + 22 * j in
         let start = simp append-assoc at (content-stands file entry-payload r at (recordOf records.flips) e) in
-        let (c-is, e₁) = field-read 2 (getD (c .columns) j 0) file (bytesOf 8 (getD (c .raised) j 0) ++ (bytesOf 8 (getD (c .lowered) j 0) ++ r)) (at + 4) {after = at + 6} (omega (arith, k .column-fits, head-kept .columns)) start (omega arith) in
-        let (r-is, e₂) = field-read 8 (getD (c .raised) j 0) file (bytesOf 8 (getD (c .lowered) j 0) ++ r) (at + 6) {after = at + 14} (set-fits (head-kept .few) (k .raised-known)) e₁ (omega arith) in
-        let (l-is, e₃) = field-read 8 (getD (c .lowered) j 0) file r (at + 14) {after = at + 22} (set-fits (head-kept .few) (k .lowered-known)) e₂ (omega arith) in
+        let (c-is, e₁) = field-read 2 (getD (c .columns) j 0) file (bytesOf 8 (getD (c .raised) j 0) ++ (bytesOf 8 (getD (c .lowered) j 0) ++ r)) (at + 4) {after = at + 6} (omega (arith, k .column-known j l, lawful .head-lawful .few-columns)) start (omega arith) in
+        let (r-is, e₂) = field-read 8 (getD (c .raised) j 0) file (bytesOf 8 (getD (c .lowered) j 0) ++ r) (at + 6) {after = at + 14} (known-fits (k .raised-known j l)) e₁ (omega arith) in
+        let (l-is, e₃) = field-read 8 (getD (c .lowered) j 0) file r (at + 14) {after = at + 22} (known-fits (k .lowered-known j l)) e₂ (omega arith) in
         (c-is, r-is, l-is)
 
     entry-alike : (here : Cursor) → here .at ≡ flips-at + 22 * j
@@ -203,11 +189,11 @@ module _ {c : Content} (legal : Legal c) where
         groups = c .groups;
         flips = c .flips;
         total = c .total;
-        taxa = entries-are (λ i. numberAt 8 file (20 + 16 * i)) (c .groups) (c .taxa) (legal .taxa-sized) (λ i l. group-fields i l .0) i;
-        costs = entries-are (λ i. numberAt 4 file (28 + 16 * i)) (c .groups) (c .costs) (legal .costs-sized) (λ i l. group-fields i l .1) i;
-        columns = entries-are (λ j. numberAt 2 file (flips-at + 22 * j + 4)) (c .flips) (c .columns) (legal .columns-sized) (λ j l. entry-fields j l .0) i;
-        raised = entries-are (λ j. numberAt 8 file (flips-at + 22 * j + 6)) (c .flips) (c .raised) (legal .raised-sized) (λ j l. entry-fields j l .1) i;
-        lowered = entries-are (λ j. numberAt 8 file (flips-at + 22 * j + 14)) (c .flips) (c .lowered) (legal .lowered-sized) (λ j l. entry-fields j l .2) i;
+        taxa = entries-are (λ i. numberAt 8 file (20 + 16 * i)) (c .groups) (c .taxa) (lawful .sized .taxa-sized) (λ i l. group-fields i l .0) i;
+        costs = entries-are (λ i. numberAt 4 file (28 + 16 * i)) (c .groups) (c .costs) (lawful .sized .costs-sized) (λ i l. group-fields i l .1) i;
+        columns = entries-are (λ j. numberAt 2 file (flips-at + 22 * j + 4)) (c .flips) (c .columns) (lawful .sized .columns-sized) (λ j l. entry-fields j l .0) i;
+        raised = entries-are (λ j. numberAt 8 file (flips-at + 22 * j + 6)) (c .flips) (c .raised) (lawful .sized .raised-sized) (λ j l. entry-fields j l .1) i;
+        lowered = entries-are (λ j. numberAt 8 file (flips-at + 22 * j + 14)) (c .flips) (c .lowered) (lawful .sized .lowered-sized) (λ j l. entry-fields j l .2) i;
       })
 
   -- "The encoding of any content that keeps the rules is accepted .."

@@ -31,18 +31,19 @@ pub record HeadKept (n m groups flips listed : ℕ) : Type 0 where
   pub some : 0 < n
   pub few : n ≤ 64
   pub columns : m ≤ 256
-  pub counts : counted n groups ≡ true
   pub fewer : groups < n
+  pub some-groups : 1 < n → 0 < groups
   pub flips-fit : flips ≤ m
   pub all-listed : flips ≤ listed
 
-fewer-by : (n groups : ℕ) → 0 < n → counted n groups ≡ true → groups < n
+-- A count of groups that passes: fewer than n, and some where n is 2 or more.
+count-keeps : (n groups : ℕ) → 0 < n → counted n groups ≡ true → (groups < n) × (1 < n → 0 < groups)
 unfolding counted
-fewer-by n groups p = go (eqb n 1)
+count-keeps n groups p = go (eqb n 1) refl
   where
-    go : (one : Bool) → cond one (eqb groups 0) (ltb 0 groups && ltb groups n) ≡ true → groups < n
-    go true e = omega (arith, eqb-true groups 0 e)
-    go false e = ltb-true groups n (both (ltb 0 groups) (ltb groups n) e .1)
+    go : (one : Bool) → eqb n 1 ≡ one → cond one (eqb groups 0) (ltb 0 groups && ltb groups n) ≡ true → (groups < n) × (1 < n → 0 < groups)
+    go true one e = (omega (arith, eqb-true groups 0 e), λ l. absurd (omega (arith, eqb-true n 1 one)))
+    go false one e = let (some, few) = both (ltb 0 groups) (ltb groups n) e in (ltb-true groups n few, λ l. ltb-true 0 groups some)
 
 pub head-keeps : (n m groups flips listed : ℕ) → headFault n m groups flips listed ≡ 0 → HeadKept n m groups flips listed
 unfolding headFault
@@ -54,12 +55,13 @@ head-keeps n m groups flips listed e =
     let (none, many) = neither (eqb n 0) (ltb 64 n) taxa in
     let (above, missing) = neither (ltb m flips) (ltb listed flips) flips-in in
     let some : 0 < n = omega (arith, eqb-false n 0 none) in
+    let (fewer, some-groups) = count-keeps n groups some counts in
     record {
       some = some;
       few = ltb-false 64 n many;
       columns = ltb-false 256 m columns;
-      counts = counts;
-      fewer = fewer-by n groups some counts;
+      fewer = fewer;
+      some-groups = some-groups;
       flips-fit = ltb-false m flips above;
       all-listed = ltb-false listed flips missing;
     }

@@ -8,9 +8,9 @@ pub mod Stages
 pub mod Cuts
 pub mod Files
 pub mod Outcomes
+pub mod Meaning
 pub mod Taken
 pub mod Encoding
-pub mod Lawful
+pub mod Accepted
 pub mod RoundTrip
-pub mod Meaning
 pub mod Numbers

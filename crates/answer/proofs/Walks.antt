@@ -2,12 +2,13 @@
 use mathlib.Core.Path.{_≡_, refl, sym, ap, _∙_, subst₂}
 use mathlib.Core.List.{List}
 use Prim.Native.Nat.{ℕ, zero, suc, _+_, _*_, _≤_, _<_}
+use native.Mathlib.Nat.{mul-suc}
 use native.Mathlib.Numerals.{add-one}
 use native.Mathlib.Omega.{arith}
 use lib.Dec.{eqb}
 use lib.ListN.{getD, length, set, replicate}
 use borrow.Author.Count.{below-more}
-use borrow.Author.Tests.{eqb-true}
+use borrow.Author.Tests.{eqb-true, eq-eqb}
 use Rattle.taxa.proofs.Sums.{sum-≡}
 use Rattle.record.specs.Bytes.{numberAt, over}
 use Rattle.record.specs.Records as records
@@ -93,6 +94,19 @@ module _ (one other : ℕ → Cursor → Passed) (w : ℕ) (moves : (i : ℕ) (h
   walk-carries (suc k) from carries {end} e =
       let (c, before, last) = through (walk other k from) e in
       rw (← walk-carries k from (λ i here next l. carries i here next (omega arith)) before) (carries k c end (omega arith) (walk-moves other w moves k from before) last)
+
+-- Where all records of one size pass, the walk passes.
+pub walk-passes : (one : ℕ → Cursor → Passed) (size k : ℕ) → ((i : ℕ) → i < k → (at : ℕ) → At (record { at = at + size }) ≡ one i (record { at = at }))
+    → (at : ℕ) → At (record { at = at + size * k }) ≡ walk one k (record { at = at })
+unfolding walk
+walk-passes one size zero h at = ap (λ (a : ℕ). At (record { at = a })) (omega arith)
+walk-passes one size (suc k) h at =
+    rw (← walk-passes one size k (λ i b. h i (omega arith)) at, ← h k (omega arith) (at + size * k)) (ap (λ (a : ℕ). At (record { at = a })) (omega (arith, mul-suc size k)))
+
+-- A record with no fault passes.
+pub no-fault : {fault : ℕ} (place at : ℕ) {next : Cursor} → fault ≡ 0 → next .at ≡ at → At next ≡ judge fault place (record { at = at })
+unfolding judge
+no-fault {fault} place at {next} none e = rw (eq-eqb fault 0 none) (λ i. At (record { at = e i }))
 
 pub through-judge : (fault place : ℕ) (c : Cursor) {next : Cursor} → At next ≡ judge fault place c → (fault ≡ 0) × (c ≡ next)
 unfolding judge

@@ -1,5 +1,5 @@
--- The rules of an answer (document 01, "Records" and the table of refusals): for each record the number of the first refusal
--- that it meets, "by number", or 0. Groups and flips are judged against the records before them.
+-- The rules of an answer as tests (document 01, the table of refusals): for each record the number of the first refusal that it meets,
+-- "by number", or 0. Groups and flips are judged against the records before them. proofs/Meaning.antt has that these are the rules of Lawful.antt.
 use mathlib.Core.Bool.{Bool, true, _||_, _&&_, not, cond}
 use mathlib.Core.List.{List}
 use Prim.Native.Nat.{ℕ, zero, suc, _+_}

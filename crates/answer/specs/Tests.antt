@@ -1,16 +1,15 @@
 -- The tests of reading, which "writing makes on what it is given, placed as in the file": record by record, each at its place.
-use mathlib.Core.Path.{_≡_}
 use mathlib.Core.Bool.{cond}
 use mathlib.Core.List.{List}
-use Prim.Native.Nat.{ℕ, zero, suc, _+_, _^_, _<_}
+use Prim.Native.Nat.{ℕ, zero, suc, _+_}
 use lib.Dec.{eqb}
-use lib.ListN.{length, getD}
+use lib.ListN.{getD}
 use Rattle.record.specs.Records as records
 use Rattle.record.specs.Records.{recordOf, payload, refused, step, judged, onward}
 use Rattle.record.specs.declared.Cursor.{Cursor}
 use Rattle.record.specs.declared.Passed.{Passed}
 use Rattle.record.specs.declared.Passed.the-variants.{At, Refused}
-use Rattle.answer.specs.Content.{Content, lengthOf}
+use Rattle.answer.specs.Content.{Content}
 use Rattle.answer.specs.Rules.{headFault, groupFault, floorOf, entryFault, totalFault}
 
 -- A record that was judged at its place: refused by a number, or passed on 0.
@@ -64,13 +63,3 @@ tests meet c listed =
     onward (headTest meet (c .n) (c .m) (c .groups) (c .flips) listed) (λ groups.
     onward (walk (groupTest meet (c .n) (c .taxa)) (c .groups) groups) (λ flips.
     onward (walk (flipsTest meet (c .n) (c .m) (c .columns) (c .raised) (c .lowered)) (c .flips) flips) (endTest meet (c .total) (c .costs) (c .groups))))
-
--- A content that keeps the rules: its lists are as long as its counts say, its total fits 4 bytes, and it passes the tests.
-pub record Legal (c : Content) : Type 0 where
-  pub taxa-sized : length (c .taxa) ≡ c .groups
-  pub costs-sized : length (c .costs) ≡ c .groups
-  pub columns-sized : length (c .columns) ≡ c .flips
-  pub raised-sized : length (c .raised) ≡ c .flips
-  pub lowered-sized : length (c .lowered) ≡ c .flips
-  pub total-fits : c .total < 2 ^ 32
-  pub passes : At (record { at = lengthOf c }) ≡ tests asGiven c (c .flips)

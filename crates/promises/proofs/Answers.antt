@@ -17,7 +17,7 @@ use Rattle.matrix.specs.declared.Checked.{Checked}
 use Rattle.matrix.specs.declared.Checked.the-variants as checks
 use Rattle.matrix.specs.Check.{checked}
 use Rattle.answer.specs.Content.{Content, contentIn, contentOf, answerOf, fileOf, lengthOf}
-use Rattle.answer.specs.Tests.{Legal}
+use Rattle.answer.specs.Lawful.{Lawful}
 use Rattle.answer.specs.Reading.{reading, listed, Reads}
 use Rattle.answer.specs.declared.Reading.{Reading}
 use Rattle.answer.specs.declared.Verdict.the-variants as verdict
@@ -32,7 +32,7 @@ use Rattle.tree.specs.declared.Built.{Built}
 use Rattle.tree.specs.declared.Built.the-variants.{Taken, Refused}
 use Rattle.tree.specs.Lists as lists
 use Rattle.tree.specs.Build.{contentFor, roomFor, takenOf, answered, built, outputAfter, workspaceAfter, returned}
-use Rattle.tree.proofs.Rules.{answer-legal}
+use Rattle.tree.proofs.Rules.{answer-lawful}
 use Rattle.promises.specs.Held.{Leaves, groupsIn, flipsIn, totalIn}
 use Rattle.promises.proofs.Bytes.{file-bytes}
 
@@ -134,18 +134,18 @@ module _ {file answerFile : List ℕ} (f : File file) (b : Leaves file answerFil
   pub sound : Sound M
   sound = taken-sound f (leaves-taken b .2)
 
-  pub legal : Legal (contentFor M)
-  legal = answer-legal M sound
+  pub lawful : Lawful (contentFor M)
+  lawful = answer-lawful M sound
 
   -- "Answer files read back to what was written": its content is the method's answer,
   pub answer-content : contentIn answerFile ≡ contentFor M
-  answer-content = ap contentIn (leaves-file b) ∙ file-holds legal
+  answer-content = ap contentIn (leaves-file b) ∙ file-holds lawful
 
   -- and reading takes it, given a list with room for its flips: what it returns and leaves in the list is that content.
   pub answer-taken : (room : ℕ) → contentIn answerFile .flips ≤ room → reading answerFile room ≡ record { verdict = verdict.Taken; answer = answerOf (contentFor M) }
   answer-taken room l =
       ap (λ (x : List ℕ). reading x room) (leaves-file b)
-      ∙ reads-back legal room (omega (arith, ap (λ (c : Content). c .flips) answer-content))
+      ∙ reads-back lawful room (omega (arith, ap (λ (c : Content). c .flips) answer-content))
 
   pub answer-reads-back : {cs us ds : List ℕ} {r : Reading} {cs′ us′ ds′ : List ℕ} → Reads answerFile cs us ds r cs′ us′ ds′ → contentIn answerFile .flips ≤ listed cs us ds
       → (r .verdict ≡ verdict.Taken) × (contentOf (r .answer) cs′ us′ ds′ ≡ contentFor M)

@@ -22,6 +22,7 @@ use Rattle.answer.specs.declared.Written.the-variants as written
 use Rattle.answer.specs.Content.{Content, fileOf, lengthOf}
 use Rattle.answer.specs.Tests.{judge}
 use Rattle.answer.specs.Writing.{writeTests, writing}
+use Rattle.answer.proofs.Meaning.{lawful-passes}
 use Rattle.method.specs.Split.{Column}
 use Rattle.method.specs.Tree.{Matrix, Sound, column, build, ordered, flipList, answer}
 use Rattle.method.proofs.Order.{build-length}
@@ -35,7 +36,7 @@ use Rattle.tree.specs.declared.Built.the-variants.{Refused}
 use Rattle.tree.specs.Lists.{firstGroups, Room, unweighed}
 use Rattle.tree.specs.Grow.{Ready, Grown, Walked, Answers}
 use Rattle.tree.specs.Build.{contentWith, contentFor, roomFor, takenOf, Buildable, answered, built, outputAfter, workspaceAfter, returned, buildNumbers}
-use Rattle.tree.proofs.Rules.{answer-passes, answer-fits, flips-few}
+use Rattle.tree.proofs.Rules.{answer-lawful, answer-fits, flips-few}
 
 -- A workspace that is cleared stays so.
 pub cleared-twice : (k : ℕ) (ws : List ℤ) → cleared k (cleared k ws) ≡ cleared k ws
@@ -126,7 +127,7 @@ module _ {file : List ℕ} {n m space room : ℕ} (f : File file) (b : Buildable
   pub written-all : (listed : ℕ) → m ≤ listed → writing (contentFor M) listed room ≡ written.Length (lengthOf (contentFor M))
   unfolding writing writeTests judge
   written-all listed l =
-      rw (← answer-passes M ok listed (omega (arith, flips-few M ok, taken-count f (b .taken))), le-ltb room (lengthOf (contentFor M)) (omega (arith, answer-fits M ok, b .fits, taken-count f (b .taken), taken-known f (b .taken))))
+      rw (← lawful-passes (answer-lawful M ok) listed (omega (arith, flips-few M ok, taken-count f (b .taken))), le-ltb room (lengthOf (contentFor M)) (omega (arith, answer-fits M ok, b .fits, taken-count f (b .taken), taken-known f (b .taken))))
 
   -- So the build answers as it should, and the output holds the file.
   pub answers-all : {c : Content} {out out′ : List ℕ} {r : Built} → c ≡ contentFor M → length out ≡ room → Answers c out r out′ → (r ≡ takenOf file) × (out′ ≡ over (fileOf (contentFor M)) 0 out)
