@@ -6,3 +6,4 @@ pub mod OneAnswer
 pub mod Entries
 pub mod Tree
 pub mod Specimens
+pub mod PassingOn
