@@ -7,6 +7,7 @@ ghost use Rattle.answer.specs.Content.{contentOf};
 ghost use Rattle.answer.specs.Reading.{listed, Reads};
 ghost use Rattle.answer.specs.Writing.{Writes};
 ghost use Rattle.entries.specs.Entries.{ReadsEntries, WritesEntries};
+ghost use Rattle.promises.specs.Held.{InWidths};
 
 pub fn read_entries(file: &[u8], list: &mut [Flip]) -> Reading
     ensures { λ r. ⌜ ReadsEntries (now (file .entry)) (now (list .entry)) r (now (list .exit)) ⌝ }
@@ -45,4 +46,10 @@ pub fn write_lists(
         (listed (now (columns .entry)) (now (raised .entry)) (now (lowered .entry))) (now (out .entry)) r (now (out .exit)) ⌝ }
 {
     answer::write(answer, columns, raised, lowered, out)
+}
+
+// What the type of an answer's value says of it holds of each value that there is in code.
+pub fn any_answer(answer: Answer)
+    ensures { λ _. ⌜ InWidths answer ⌝ }
+{
 }
