@@ -33,7 +33,7 @@ use Rattle.entries.specs.Entries.{zipped, entriesOf, withFirst, stored, 
 use Rattle.entries.proofs.Rows.{long-zipped}
 
 -- ---- entries from parts
-take-zipped : (k : ℕ) (cs us ds : List ℕ) → take k (zipped cs us ds) ≡ zipped (take k cs) (take k us) (take k ds)
+pub take-zipped : (k : ℕ) (cs us ds : List ℕ) → take k (zipped cs us ds) ≡ zipped (take k cs) (take k us) (take k ds)
 take-zipped zero cs us ds = refl
 take-zipped (suc k) [] us ds = refl
 take-zipped (suc k) (c ∷ cs) [] ds = refl

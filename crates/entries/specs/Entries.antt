@@ -3,11 +3,14 @@ use mathlib.Core.Path.{_≡_}
 use mathlib.Core.List.{List, [], _∷_, _++_, map}
 use Prim.Native.Nat.{ℕ, _<_, _≤_, _^_}
 use lib.ListN.{length, getD, take, drop}
-use Rattle.answer.specs.Content.{Content, contentIn}
+use Rattle.answer.specs.Content.{Content, contentIn, contentOf}
 use Rattle.answer.specs.Reading.{reading, returned, readNumbers}
+use Rattle.answer.specs.Writing.{Writes}
+use Rattle.answer.specs.declared.Answer.{Answer}
 use Rattle.answer.specs.declared.Reading.{Reading}
 use Rattle.answer.specs.declared.Verdict.{Verdict}
 use Rattle.answer.specs.declared.Verdict.the-variants.{Taken, Refused}
+use Rattle.answer.specs.declared.Written.{Written}
 use Rattle.entries.specs.declared.Flip.{Flip}
 
 -- Three lists as one of entries, as long as the shortest.
@@ -33,6 +36,10 @@ entryLowered ys = map (λ (f : Flip). f .lowered) ys
 abbrev pub entriesOf : Content → List Flip
 entriesOf c = zipped (c .columns) (c .raised) (c .lowered)
 
+-- The content of a value and a list of entries.
+abbrev pub contentWith : Answer → List Flip → Content
+contentWith a list = contentOf a (entryColumns list) (entryRaised list) (entryLowered list)
+
 -- A list with its first k elements replaced by those of another.
 abbrev pub withFirst : {X : Type 0} → ℕ → List X → List X → List X
 withFirst k xs zs = take k xs ++ drop k zs
@@ -51,6 +58,10 @@ pub record ReadsEntries (file : List ℕ) (list : List Flip) (r : Reading) (list
   pub answers : r ≡ reading file (length list)
   pub numbers : returned r ≡ readNumbers file (length list)
   pub list-after : list′ ≡ stored (r .verdict) (entriesOf (contentIn file)) ++ drop (length (stored (r .verdict) (entriesOf (contentIn file)))) list
+
+-- What writing promises of its answer and of the output: what writing the content of the value and the list promises.
+abbrev pub WritesEntries : Answer → List Flip → List ℕ → Written → List ℕ → Type 0
+WritesEntries a list out r out′ = Writes (contentWith a list) (length list) out r out′
 
 -- What reading for a list of so many entries leaves in three parts of 256: the flips that it counts stand first, and have room.
 pub record InParts (file : List ℕ) (entries : ℕ) (r : Reading) (columns raised lowered : List ℕ) : Type 0 where

@@ -11,7 +11,7 @@ ghost use Prim.Native.Nat.{_≤_, min};
 ghost use lib.ListN.{length, take};
 ghost use Rattle.answer.specs.Content.{contentOf};
 ghost use Rattle.answer.specs.Writing.{Writes};
-ghost use Rattle.entries.specs.Entries.{zipped, entryColumns, entryRaised, entryLowered, withFirst, narrow, InParts, ReadsEntries};
+ghost use Rattle.entries.specs.Entries.{zipped, entryColumns, entryRaised, entryLowered, withFirst, narrow, InParts, ReadsEntries, WritesEntries};
 
 // A column with its raised and lowered taxa, the column in its file width. As C lays it out, so that C can lend a list of them.
 #[repr(C)]
@@ -135,9 +135,7 @@ pub fn read_answer(file: &[u8], list: &mut [Flip]) -> Reading
 
 // The operation "write an answer".
 pub fn write_answer(answer: Answer, list: &[Flip], out: &mut [u8]) -> Written
-    ensures { λ r. ⌜
-        Writes (contentOf answer (entryColumns (now (list .entry))) (entryRaised (now (list .entry))) (entryLowered (now (list .entry))))
-        (length (now (list .entry))) (now (out .entry)) r (now (out .exit)) ⌝ }
+    ensures { λ r. ⌜ WritesEntries answer (now (list .entry)) (now (out .entry)) r (now (out .exit)) ⌝ }
 {
     let mut columns = [0u64; 256];
     let mut raised = [0u64; 256];

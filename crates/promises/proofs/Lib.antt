@@ -4,6 +4,8 @@ pub mod Numbers
 pub mod Refusals
 pub mod Answers
 pub mod OneAnswer
+pub mod Entries
 pub mod Tree
 pub mod Score
 pub mod Specimens
+pub mod PassingOn

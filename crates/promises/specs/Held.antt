@@ -2,13 +2,14 @@
 use mathlib.Core.Path.{_≡_}
 use mathlib.Core.List.{List}
 use mathlib.Core.Logic.{_↔_}
-use Prim.Native.Nat.{ℕ, _<_}
+use Prim.Native.Nat.{ℕ, _<_, _^_}
 use lib.IntN.{ℤ}
 use lib.ListN.{length, take}
 use Rattle.taxa.specs.Sets.{_∈_, low, all}
 use Rattle.method.specs.Flow.{Flow, Reach, arcs, limits}
 use Rattle.method.specs.Split.{Column}
 use Rattle.method.specs.Tree.{Group, Flips, Matrix, column, RootedTree, Fits}
+use Rattle.answer.specs.declared.Answer.{Answer}
 use Rattle.answer.specs.Content.{contentIn}
 use Rattle.search.specs.Workspace.{outs, inns}
 use Rattle.split.specs.Groups.{IsSplit}
@@ -49,6 +50,14 @@ flipsIn answer = let c = contentIn answer in lists.firstFlips (c .columns) (c .r
 -- Its total.
 abbrev pub totalIn : List ℕ → ℕ
 totalIn answer = contentIn answer .total
+
+-- ---- an answer's value
+
+-- What the type of an answer's value says of each: 63 places for groups and for costs, and a total of 4 bytes.
+pub record InWidths (a : Answer) : Type 0 where
+  pub taxa-places : length (a .taxa) ≡ 63
+  pub costs-places : length (a .costs) ≡ 63
+  pub total-fits : a .total < 2 ^ 32
 
 -- ---- words of demand 3
 

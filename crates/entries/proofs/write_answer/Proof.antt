@@ -49,7 +49,7 @@ use Rattle.answer.proofs.Answer.Laws as An′
 use Rattle.answer.proofs.Written as E
 use Rattle.answer.proofs.Written.Laws as E′
 use Rattle.entries.specs.declared.Flip.{Flip}
-use Rattle.entries.specs.Entries.{entryColumns, entryRaised, entryLowered, withFirst}
+use Rattle.entries.specs.Entries.{entryColumns, entryRaised, entryLowered, withFirst, WritesEntries}
 use Rattle.entries.proofs.Rows.{length-copied}
 use Rattle.entries.proofs.Writing.{parts-written}
 use Rattle.entries.proofs.Lends.{slice, Shared, copies, Mine, Opened, opens, closes, lent-at, Tok, Lent, Kept, lends, comes-back}
@@ -152,7 +152,7 @@ module _ {M : Type 1} (𝓤 : URA M) (H : Heap 𝓤) (A : Atoms 𝓤) (W : Given
   End r wr out = ‵ (flft κ q) ∷ ‵ A₀ ∷ ‵ O ∷ ‵ (L out) ∷ ‵ (E.the-row .own wr (r ∷ [])) ∷ []
 
   -- from what is had at exit to the `post` of `walkOf`
-  exits : (r : Val) (wr : Written) (out : List ℕ) → length out ≡ length (y .now) → Writes (contentOf an (entryColumns (x .now)) (entryRaised (x .now)) (entryLowered (x .now))) (length (x .now)) (y .now) wr out → ent 𝓤 (⋆ 𝓤 H A (End r wr out)) (Post r)
+  exits : (r : Val) (wr : Written) (out : List ℕ) → length out ≡ length (y .now) → WritesEntries an (x .now) (y .now) wr out → ent 𝓤 (⋆ 𝓤 H A (End r wr out)) (Post r)
   exits r wr out e said =
       qed W (End r wr out) ∵ suffices ! _ (ends-at 𝓤 H A write′.ended stayed (write′.clauses 𝓤 H A mem run) W bound r wr (tt, (tt, (out, tt))) (tt, (tt, (e, tt)))) $ says ! said $ move ! (3 ∷ []) $ fsplit ! $
       -- [out's; t₁; t; answer's; list's; the result's]

@@ -1,0 +1,114 @@
+-- Demand 2 and demand 1's refusals of document 01's own form of an answer: "the flip list is a lent list of entries". What is proved of three lists is said of entries.
+use mathlib.Core.Path.{_≡_, refl, sym, ap, _∙_}
+use mathlib.Core.Logic.{_≢_}
+use mathlib.Core.List.{List, _++_}
+use Prim.Native.Nat.{ℕ, _≤_}
+use lib.ListN.{length, take, drop}
+use Rattle.record.specs.Bytes.{over, File}
+use Rattle.record.specs.declared.Passed.{Passed}
+use Rattle.record.specs.declared.Passed.the-variants as passed
+use Rattle.answer.specs.declared.Answer.{Answer}
+use Rattle.answer.specs.declared.Reading.{Reading}
+use Rattle.answer.specs.declared.Verdict.{Verdict}
+use Rattle.answer.specs.declared.Verdict.the-variants as verdict
+use Rattle.answer.specs.declared.Written.{Written}
+use Rattle.answer.specs.declared.Written.the-variants as written
+use Rattle.answer.specs.Content.{Content, contentIn, answerOf}
+use Rattle.answer.specs.Reading as reading
+use Rattle.answer.specs.Reading.{empty, readTests, answered}
+use Rattle.answer.specs.Writing as writing
+use Rattle.answer.specs.Writing.{Writes}
+use Rattle.answer.proofs.RoundTrip as lists
+use Rattle.entries.specs.declared.Flip.{Flip}
+use Rattle.entries.specs.Entries.{entryColumns, entryRaised, entryLowered, entriesOf, contentWith, stored, ReadsEntries, WritesEntries}
+use Rattle.entries.proofs.Apart.{take-map, listed-entries, entries-given, apart-read, taken-entries}
+use Rattle.split.specs.Columns.{matrixIn}
+use Rattle.tree.specs.Build.{contentFor}
+use Rattle.promises.specs.Held.{Leaves, InWidths}
+use Rattle.promises.proofs.Answers.{answer-content, answer-taken}
+use Rattle.promises.proofs.OneAnswer.{one-write, no-two-answer-files}
+
+-- What writing promises of a list of entries, as it promises it of three lists.
+apart-written : (a : Answer) (list : List Flip) {out : List ℕ} {w : Written} {out′ : List ℕ} → WritesEntries a list out w out′
+    → Writes (contentWith a list) (reading.listed (entryColumns list) (entryRaised list) (entryLowered list)) out w out′
+apart-written a list w = rw (listed-entries list) w
+
+-- ---- "Answer files read back to what was written"
+
+-- Of what a writing that succeeded wrote, any reading into a list with room for its flips is taken: it returns the value that was written, places past the last
+-- group 0, and leaves in the first places of the list the entries that were written, the rest as it was.
+pub reading-entries-written : {a : Answer} (list : List Flip) → InWidths a → {out : List ℕ} {size : ℕ} {out′ : List ℕ} → WritesEntries a list out (written.Length size) out′
+    → {lent : List Flip} {r : Reading} {lent′ : List Flip} → ReadsEntries (take size out′) lent r lent′ → a .flips ≤ length lent
+    → (r ≡ record { verdict = verdict.Taken; answer = answerOf (contentWith a list) })
+    × (take (a .flips) lent′ ≡ take (a .flips) list)
+    × (drop (a .flips) lent′ ≡ drop (a .flips) lent)
+reading-entries-written {a} list fits w {lent} {r} {lent′} x room =
+    let (is-file, holds, reads) = lists.reading-what-was-written a (entryColumns list) (entryRaised list) (entryLowered list) (fits .taxa-places) (fits .costs-places) (fits .total-fits) (apart-written a list w) in
+    let is = x .answers ∙ reads (length lent) room in
+    let (first, rest) = taken-entries x (ap (λ (r : Reading). r .verdict) is) in
+    let k = ap (λ (c : Content). c .flips) holds in
+    (is, ap (λ (n : ℕ). take n lent′) (sym k) ∙ first ∙ ap entriesOf holds ∙ entries-given a list, ap (λ (n : ℕ). drop n lent′) (sym k) ∙ rest ∙ ap (λ (n : ℕ). drop n lent) k)
+
+-- Writing what a reading took gives back the file: its length is returned, and it stands in the output, the rest as it was.
+pub writing-entries-read : {file : List ℕ} {list : List Flip} {r : Reading} {list′ : List Flip} → File file → ReadsEntries file list r list′ → r .verdict ≡ verdict.Taken
+    → {out : List ℕ} {w : Written} {out′ : List ℕ} → WritesEntries (r .answer) list′ out w out′ → length file ≤ length out → (w ≡ written.Length (length file)) × (out′ ≡ over file 0 out)
+writing-entries-read {r = r} {list′ = list′} f x taken w room = lists.writing-what-was-read f (apart-read x) taken room (apart-written (r .answer) list′ w)
+
+-- The build's own answer file: with room for its flips any reading of it is taken, and what it returns and leaves in the list is the method's answer.
+module _ {file answerFile : List ℕ} (f : File file) (b : Leaves file answerFile) where
+  abbrev c : Content
+  c = contentFor (matrixIn file)
+
+  pub answer-reads-back-as-entries : {list : List Flip} {r : Reading} {list′ : List Flip} → ReadsEntries answerFile list r list′ → c .flips ≤ length list
+      → (r ≡ record { verdict = verdict.Taken; answer = answerOf c }) × (take (c .flips) list′ ≡ entriesOf c) × (drop (c .flips) list′ ≡ drop (c .flips) list)
+  answer-reads-back-as-entries {list} {r} {list′} x room =
+      let holds = answer-content f b in
+      let k = ap (λ (c : Content). c .flips) holds in
+      let is = x .answers ∙ answer-taken f b (length list) (rw k room) in
+      let (first, rest) = taken-entries x (ap (λ (r : Reading). r .verdict) is) in
+      (is, ap (λ (n : ℕ). take n list′) (sym k) ∙ first ∙ ap entriesOf holds, ap (λ (n : ℕ). drop n list′) (sym k) ∙ rest ∙ ap (λ (n : ℕ). drop n list) k)
+
+-- ---- "no two accepted files, matrix or answer, carry the same content"
+
+-- A value, and the entries that it counts, as content.
+abbrev held : Answer → List Flip → Content
+held a es = record { n = a .n; m = a .m; groups = a .groups; flips = a .flips; total = a .total; taxa = take (a .groups) (a .taxa); costs = take (a .groups) (a .costs); columns = entryColumns es; raised = entryRaised es; lowered = entryLowered es }
+
+first-held : (a : Answer) (ys : List Flip) → contentWith a ys ≡ held a (take (a .flips) ys)
+first-held a ys = rw (take-map (λ (f : Flip). f .column) (a .flips) ys, take-map (λ (f : Flip). f .raised) (a .flips) ys, take-map (λ (f : Flip). f .lowered) (a .flips) ys)
+
+-- Two answer files from which readings take the same value and the same entries are the same.
+pub no-two-answer-files-of-entries : {file file₁ : List ℕ} {list list₁ : List Flip} {r r₁ : Reading} {list′ list₁′ : List Flip} → File file → File file₁
+    → ReadsEntries file list r list′ → ReadsEntries file₁ list₁ r₁ list₁′ → r .verdict ≡ verdict.Taken → r₁ .verdict ≡ verdict.Taken
+    → r .answer ≡ r₁ .answer → take (r .answer .flips) list′ ≡ take (r₁ .answer .flips) list₁′ → file ≡ file₁
+no-two-answer-files-of-entries {r = r} {r₁ = r₁} {list′ = list′} {list₁′ = list₁′} f f₁ x y t t₁ e es =
+    no-two-answer-files f f₁ (apart-read x) (apart-read y) t t₁ (first-held (r .answer) list′ ∙ (λ i. held (e i) (es i)) ∙ sym (first-held (r₁ .answer) list₁′))
+
+-- ---- two results that a contract allows coincide
+
+pub one-read-of-entries : {file : List ℕ} {list : List Flip} {r r′ : Reading} {list′ list″ : List Flip} → ReadsEntries file list r list′ → ReadsEntries file list r′ list″
+    → (r ≡ r′) × (list′ ≡ list″)
+one-read-of-entries {file} {list} x y =
+    let es = entriesOf (contentIn file) in
+    let same = x .answers ∙ sym (y .answers) in
+    (same, x .list-after ∙ ap (λ (r : Reading). stored (r .verdict) es ++ drop (length (stored (r .verdict) es)) list) same ∙ sym (y .list-after))
+
+pub one-write-of-entries : (a : Answer) (list : List Flip) {out : List ℕ} {r r′ : Written} {out′ out″ : List ℕ} → WritesEntries a list out r out′ → WritesEntries a list out r′ out″
+    → (r ≡ r′) × (out′ ≡ out″)
+one-write-of-entries a list x y = one-write x y
+
+-- ---- "and then all lent memory is as before", and "0 for every other number": from the number that is returned
+
+pub refused-read-of-entries : {file : List ℕ} {list : List Flip} {r : Reading} {list′ : List Flip} → ReadsEntries file list r list′ → reading.returned r .number ≢ 0
+    → (list′ ≡ list) × (reading.returned r .answer ≡ answerOf empty)
+unfolding reading.reading
+refused-read-of-entries {file} {list} {r} {list′} x refused = go (readTests file (length list)) (x .answers)
+  where
+    go : (p : Passed) → r ≡ answered (contentIn file) p → (list′ ≡ list) × (reading.returned r .answer ≡ answerOf empty)
+    go (passed.At here) e = absurd (refused (ap (λ (r : Reading). reading.returned r .number) e))
+    go (passed.Refused why) e = (x .list-after ∙ rw e, rw e)
+
+pub refused-write-of-entries : (a : Answer) (list : List Flip) {out : List ℕ} {r : Written} {out′ : List ℕ} → WritesEntries a list out r out′ → writing.returned r .number ≢ 0
+    → (out′ ≡ out) × (writing.returned r .size ≡ 0)
+refused-write-of-entries a list {r = written.Length size} x refused = absurd (refused refl)
+refused-write-of-entries a list {r = written.Refused why} x refused = (x .out-after, refl)

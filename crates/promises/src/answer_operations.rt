@@ -1,0 +1,55 @@
+// The operations on an answer, each called and nothing else, so that the demands rest on the code: an operation that promises less, or that asks for something, breaks a proof here.
+use answer::Answer;
+use answer::Reading;
+use answer::Written;
+use entries::Flip;
+ghost use Rattle.answer.specs.Content.{contentOf};
+ghost use Rattle.answer.specs.Reading.{listed, Reads};
+ghost use Rattle.answer.specs.Writing.{Writes};
+ghost use Rattle.entries.specs.Entries.{ReadsEntries, WritesEntries};
+ghost use Rattle.promises.specs.Held.{InWidths};
+
+pub fn read_entries(file: &[u8], list: &mut [Flip]) -> Reading
+    ensures { λ r. ⌜ ReadsEntries (now (file .entry)) (now (list .entry)) r (now (list .exit)) ⌝ }
+{
+    entries::read_answer(file, list)
+}
+
+pub fn write_entries(answer: Answer, list: &[Flip], out: &mut [u8]) -> Written
+    ensures { λ r. ⌜ WritesEntries answer (now (list .entry)) (now (out .entry)) r (now (out .exit)) ⌝ }
+{
+    entries::write_answer(answer, list, out)
+}
+
+pub fn read_lists(
+    file: &[u8],
+    columns: &mut [u64],
+    raised: &mut [u64],
+    lowered: &mut [u64],
+) -> Reading
+    ensures { λ r. ⌜
+        Reads (now (file .entry)) (now (columns .entry)) (now (raised .entry)) (now (lowered .entry)) r
+        (now (columns .exit)) (now (raised .exit)) (now (lowered .exit)) ⌝ }
+{
+    answer::read(file, columns, raised, lowered)
+}
+
+pub fn write_lists(
+    answer: Answer,
+    columns: &[u64],
+    raised: &[u64],
+    lowered: &[u64],
+    out: &mut [u8],
+) -> Written
+    ensures { λ r. ⌜
+        Writes (contentOf answer (now (columns .entry)) (now (raised .entry)) (now (lowered .entry)))
+        (listed (now (columns .entry)) (now (raised .entry)) (now (lowered .entry))) (now (out .entry)) r (now (out .exit)) ⌝ }
+{
+    answer::write(answer, columns, raised, lowered, out)
+}
+
+// What the type of an answer's value says of it holds of each value that there is in code.
+pub fn any_answer(answer: Answer)
+    ensures { λ _. ⌜ InWidths answer ⌝ }
+{
+}
