@@ -1,5 +1,5 @@
 -- What the tests mean: they pass exactly when the rules of an answer hold (`passes-exactly`; each way `passes-lawful` and `lawful-passes`).
-use mathlib.Core.Path.{_≡_, refl, sym, ap, _∙_}
+use mathlib.Core.Path.{_≡_, refl, sym, _∙_}
 use mathlib.Core.Bool.{Bool, true, false, _||_, _&&_, cond, and-eq-true-iff}
 use mathlib.Core.List.{List, []}
 use mathlib.Core.Logic.{_≢_, _↔_, _⊎_, inl, inr, by-cases}
@@ -11,11 +11,13 @@ use lib.ListN.{getD}
 use borrow.Author.Count.{below-more}
 use borrow.Author.Tests.{ltb-true, eqb-true, eqb-false, lt-ltb, eq-eqb}
 use Rattle.taxa.specs.Sets.{_∩_, _∪_, _⊆_, Disjoint, within, count, low, all}
+use Rattle.taxa.specs.Groups.{NestedOrDisjoint, Before, sooner, larger}
+use Rattle.taxa.proofs.Groups.{pair-sym, before-trans, before-differ}
 use Rattle.taxa.proofs.Members.{within-⊆, ∩-disjoint, disjoint-∩, ⊆-refl, ⊆-≤, in∪}
 use Rattle.record.specs.declared.Cursor.{Cursor}
 use Rattle.record.specs.declared.Passed.the-variants.{At}
 use Rattle.answer.specs.Content.{Content, lengthOf}
-use Rattle.answer.specs.Lawful.{Sized, LawfulHead, Before, sooner, larger, NestedOrDisjoint, LawfulGroups, LawfulFlips, Lawful}
+use Rattle.answer.specs.Lawful.{Sized, LawfulHead, LawfulGroups, LawfulFlips, Lawful}
 use Rattle.answer.specs.Rules.{counted, follows, placed, compatible, compatibleAll, groupFault, floorOf, entryFault, sumOf, totalFault}
 use Rattle.answer.specs.Tests.{asGiven, walk, headTest, groupTest, entryTest, flipsTest, endTest, tests}
 use Rattle.answer.proofs.Kept.{HeadKept, GroupKept, group-keeps, EntryKept, total-keeps}
@@ -34,15 +36,15 @@ or-right : (a : Bool) {b : Bool} → b ≡ true → (a || b) ≡ true
 or-right true e = refl
 or-right false e = e
 
-follows-before : (x y : ℕ) → (follows x y ≡ true) ↔ Before x y
+follows-before : (x y : ℕ) → (follows x y ≡ true) ↔ Before 64 x y
 unfolding follows
 follows-before x y = (λ e. says (either (ltb (low 64 x) (low 64 y)) (eqb (low 64 x) (low 64 y) && ltb (count 64 y) (count 64 x)) e), holds)
   where
-    says : (ltb (low 64 x) (low 64 y) ≡ true) ⊎ ((eqb (low 64 x) (low 64 y) && ltb (count 64 y) (count 64 x)) ≡ true) → Before x y
+    says : (ltb (low 64 x) (low 64 y) ≡ true) ⊎ ((eqb (low 64 x) (low 64 y) && ltb (count 64 y) (count 64 x)) ≡ true) → Before 64 x y
     says (inl l) = sooner (ltb-true _ _ l)
     says (inr r) = let (same, more) = and-eq-true-iff (eqb (low 64 x) (low 64 y)) (ltb (count 64 y) (count 64 x)) .0 r in larger (eqb-true _ _ same) (ltb-true _ _ more)
 
-    holds : Before x y → (ltb (low 64 x) (low 64 y) || (eqb (low 64 x) (low 64 y) && ltb (count 64 y) (count 64 x))) ≡ true
+    holds : Before 64 x y → (ltb (low 64 x) (low 64 y) || (eqb (low 64 x) (low 64 y) && ltb (count 64 y) (count 64 x))) ≡ true
     holds (sooner l) = rw (lt-ltb _ _ l)
     holds (larger e l) = or-right (ltb (low 64 x) (low 64 y)) (rw (eq-eqb _ _ e, lt-ltb _ _ l))
 
@@ -62,11 +64,6 @@ compatible-nested x y = (λ e. says (either (within x y) (within y x || eqb (x �
     holds (inl s) = rw (within-⊆ x y .1 s)
     holds (inr (inl s)) = or-right (within x y) (rw (within-⊆ y x .1 s))
     holds (inr (inr s)) = or-right (within x y) (or-right (within y x) (eq-eqb _ _ (disjoint-∩ s)))
-
-swapped : {x y : ℕ} → NestedOrDisjoint x y → NestedOrDisjoint y x
-swapped (inl s) = inr (inl s)
-swapped (inr (inl s)) = inl s
-swapped (inr (inr s)) = inr (inr (record { off = λ y x. s .off x y }))
 
 compatible-each : (taxa : List ℕ) (x k : ℕ) → (compatibleAll taxa x k ≡ true) ↔ ((i : ℕ) → i < k → NestedOrDisjoint (getD taxa i 0) x)
 unfolding compatibleAll
@@ -95,12 +92,6 @@ from-neighbours R trans n next i zero l b = absurd (omega arith)
 from-neighbours R trans n next i (suc j) l b =
     below-more (λ i. R i (suc j)) j (λ i h. trans i j (suc j) (from-neighbours R trans n next i j h (omega arith)) (next j b)) (next j b) i (omega arith)
 
-before-trans : {x y z : ℕ} → Before x y → Before y z → Before x z
-before-trans (sooner l) (sooner k) = sooner (omega arith)
-before-trans (sooner l) (larger e k) = sooner (omega arith)
-before-trans (larger e l) (sooner k) = sooner (omega arith)
-before-trans (larger e l) (larger d k) = larger (e ∙ d) (omega arith)
-
 -- ---- tests that pass
 
 module _ {c : Content} (sized : Sized c) (listed : ℕ) {last : Cursor} (passed : At last ≡ tests asGiven c listed) where
@@ -118,7 +109,7 @@ module _ {c : Content} (sized : Sized c) (listed : ℕ) {last : Cursor} (passed 
   entry-kept : (j : ℕ) → j < c .flips → EntryKept (c .n) (c .m) (floorOf (c .columns) j) (getD (c .columns) j 0) (getD (c .raised) j 0) (getD (c .lowered) j 0)
   entry-kept = given-entry-kept c listed [] passed
 
-  next-before : (i : ℕ) → suc i < c .groups → Before (getD (c .taxa) i 0) (getD (c .taxa) (suc i) 0)
+  next-before : (i : ℕ) → suc i < c .groups → Before 64 (getD (c .taxa) i 0) (getD (c .taxa) (suc i) 0)
   unfolding placed
   next-before i l = follows-before _ _ .0 (group-kept (suc i) l .well-placed)
 
@@ -132,7 +123,7 @@ module _ {c : Content} (sized : Sized c) (listed : ℕ) {last : Cursor} (passed 
   all-nested : (i j : ℕ) → i < c .groups → j < c .groups → NestedOrDisjoint (getD (c .taxa) i 0) (getD (c .taxa) j 0)
   all-nested i j h b =
       by-cases (decLt i j) (λ l. later-nested i j l b) (λ g.
-      by-cases (decLt j i) (λ l. swapped (later-nested j i l h)) (λ k.
+      by-cases (decLt j i) (λ l. pair-sym (later-nested j i l h)) (λ k.
       let same : i ≡ j = omega arith in rw same (inl (⊆-refl (getD (c .taxa) j 0)))))
 
   next-rises : (j : ℕ) → suc j < c .flips → getD (c .columns) j 0 < getD (c .columns) (suc j) 0
@@ -161,7 +152,7 @@ module _ {c : Content} (sized : Sized c) (listed : ℕ) {last : Cursor} (passed 
         groups-lawful = record {
           two-or-more = λ i l. group-kept i l .large;
           known = λ i l. group-kept i l .known;
-          in-order = from-neighbours (λ i j. Before (getD (c .taxa) i 0) (getD (c .taxa) j 0)) (λ i j k. before-trans) (c .groups) next-before;
+          in-order = from-neighbours (λ i j. Before 64 (getD (c .taxa) i 0) (getD (c .taxa) j 0)) (λ i j k. before-trans) (c .groups) next-before;
           nested-or-disjoint = all-nested;
           first-is-all = λ l. first-all (k .some-groups l);
         };
@@ -203,11 +194,7 @@ module _ {c : Content} (lawful : Lawful c) where
 
   -- "None twice."
   pub none-twice : (i j : ℕ) → i < j → j < c .groups → getD (c .taxa) i 0 ≢ getD (c .taxa) j 0
-  none-twice i j l b e = go (groups .in-order i j l b)
-    where
-      go : Before (getD (c .taxa) i 0) (getD (c .taxa) j 0) → ⊥
-      go (sooner l) = omega (arith, ap (low 64) e)
-      go (larger d l) = omega (arith, ap (count 64) e)
+  none-twice i j l b = before-differ (groups .in-order i j l b)
 
   place-holds : (i : ℕ) → i < c .groups → placed (c .n) (c .taxa) i ≡ true
   unfolding placed

@@ -1,9 +1,9 @@
 -- A lawful answer: the rules that document 01 states of an answer ("Records", and refusals 3, 4, 6, 12, 13, 14), said of its content.
 use mathlib.Core.Path.{_≡_}
-use mathlib.Core.Logic.{_⊎_}
 use Prim.Native.Nat.{ℕ, _-_, _^_, _≤_, _<_}
 use lib.ListN.{length, getD}
-use Rattle.taxa.specs.Sets.{_⊆_, Disjoint, count, low, all}
+use Rattle.taxa.specs.Sets.{_⊆_, Disjoint, count, all}
+use Rattle.taxa.specs.Groups.{NestedOrDisjoint, Before}
 use Rattle.taxa.specs.Sum.{sum}
 use Rattle.answer.specs.Content.{Content}
 
@@ -26,20 +26,11 @@ pub record LawfulHead (c : Content) : Type 0 where
   pub few-groups : 2 ≤ c .n → c .groups ≤ c .n - 1
   pub few-flips : c .flips ≤ c .m
 
--- "By lowest taxon, larger first where that is equal": x stands before y.
-pub data Before (x y : ℕ) : Type 0 where
-  sooner : low 64 x < low 64 y → Before x y
-  larger : low 64 x ≡ low 64 y → count 64 y < count 64 x → Before x y
-
--- "Nested or disjoint."
-abbrev pub NestedOrDisjoint : ℕ → ℕ → Type 0
-NestedOrDisjoint x y = x ⊆ y ⊎ (y ⊆ x ⊎ Disjoint x y)
-
 -- "Groups have two or more taxa", none n or above; they stand in order, "none twice"; "any two are nested or disjoint", "the first is all n taxa".
 pub record LawfulGroups (c : Content) : Type 0 where
   pub two-or-more : (i : ℕ) → i < c .groups → 2 ≤ count 64 (getD (c .taxa) i 0)
   pub known : (i : ℕ) → i < c .groups → getD (c .taxa) i 0 ⊆ all (c .n)
-  pub in-order : (i j : ℕ) → i < j → j < c .groups → Before (getD (c .taxa) i 0) (getD (c .taxa) j 0)
+  pub in-order : (i j : ℕ) → i < j → j < c .groups → Before 64 (getD (c .taxa) i 0) (getD (c .taxa) j 0)
   pub nested-or-disjoint : (i j : ℕ) → i < c .groups → j < c .groups → NestedOrDisjoint (getD (c .taxa) i 0) (getD (c .taxa) j 0)
   pub first-is-all : 2 ≤ c .n → getD (c .taxa) 0 0 ≡ all (c .n)
 

@@ -8,11 +8,13 @@ use native.Mathlib.Nat.{eq-or-lt-of-le, le-of-suc-le-suc, mul-zero}
 use native.Mathlib.Decide.{decLt}
 use native.Mathlib.Omega.{arith}
 use Rattle.taxa.specs.Sets.{_∈_, _∉_, _⊆_, Disjoint, _∩_, _∖_, within, count, low}
+use Rattle.taxa.specs.Groups.{NestedOrDisjoint}
+use Rattle.taxa.proofs.Groups.{pair-sym}
 use Rattle.taxa.proofs.Sums.{sum-none}
 use Rattle.taxa.proofs.Members.{none as nothing, in?, in∩, in∖, empty as all-out, ⊆-refl, ⊆-trans, ∩-⊆, ∩-⊆ʳ, within-⊆, pow-in, pow-⊆}
 use Rattle.taxa.proofs.Counts.{count-none}
 use Rattle.method.specs.Split.{Column, Same, share, Division, divisionCost, splitCost, after, splitParts}
-use Rattle.method.specs.Tree.{Group, Walk, walked, total, node, build, Clade, group, single, Fills, NestedOrDisjoint, Laminar, Fits}
+use Rattle.method.specs.Tree.{Group, Walk, walked, total, node, build, Clade, group, single, Fills, Laminar, Fits}
 use Rattle.method.proofs.Flips.{Proper}
 use Rattle.method.proofs.Parts.{Parts, done, next, inside-R}
 use Rattle.method.proofs.Listing.{side-best, alone}
@@ -21,7 +23,7 @@ use Rattle.method.proofs.Splits.{split-parts, part-in, after-weight, af
 use Rattle.method.proofs.Depth.{build-ind}
 use Rattle.method.proofs.Walks.{total-++, build-tame}
 use Rattle.method.proofs.Filling.{fills-same, fills-⊆, filled}
-use Rattle.method.proofs.Shape.{pair-sym, Lined, lined-pair}
+use Rattle.method.proofs.Shape.{Lined, lined-pair}
 
 -- ---- families that fit the columns in X: each column can be filled so that its 1s in X are those of a member
 

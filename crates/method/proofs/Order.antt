@@ -11,10 +11,11 @@ use lib.Dec.{ltb, eqb}
 use lib.ListN.{length, length-append}
 use borrow.Author.Tests.{eqb-true, eq-eqb, lt-ltb, le-ltb, ne-eqb}
 use Rattle.taxa.specs.Sets.{_∈_, _∖_, count, low}
+use Rattle.taxa.specs.Groups.{sooner, larger}
 use Rattle.taxa.proofs.Members.{⊆-≤, low-in}
 use Rattle.taxa.proofs.Counts.{count-none, count-∖, count-pos}
 use Rattle.method.specs.Split.{Column, after, splitParts}
-use Rattle.method.specs.Tree.{Group, walked, node, build, kept, ordered, total, Before, sooner, larger, Line, end, and}
+use Rattle.method.specs.Tree.{Group, walked, node, build, kept, ordered, total, InFileOrder, Line, end, and}
 use Rattle.method.proofs.Parts.{Parts, done, next}
 use Rattle.method.proofs.Splits.{split-parts, part-in}
 use Rattle.method.proofs.Depth.{build-ind}
@@ -156,7 +157,7 @@ module _ (k : ℕ) where
       (eq-or-lt-of-le (le-of-suc-le-suc b))
 
   -- and stand in that order.
-  pub ordered-line : (n : ℕ) {gs : List Group} → Line (Ahead k) gs → ((x : Group) → List·Memᴰ x gs → low k (x .taxa) ∈ x .taxa) → Line (Before k) (ordered k n gs)
+  pub ordered-line : (n : ℕ) {gs : List Group} → Line (Ahead k) gs → ((x : Group) → List·Memᴰ x gs → low k (x .taxa) ∈ x .taxa) → Line (InFileOrder k) (ordered k n gs)
   unfolding ordered
   ordered-line zero l h = end
   ordered-line (suc n) {gs} l h = line-++ (ordered-line n l h) (line-map inner (kept-line p l)) outer
@@ -167,11 +168,11 @@ module _ (k : ℕ) where
       at : {x : Group} → List·Memᴰ x (kept p gs) → low k (x .taxa) ≡ n
       at {x} a = eqb-true (low k (x .taxa)) n (kept-in p gs a .1)
 
-      inner : (x y : Group) → List·Memᴰ x (kept p gs) → List·Memᴰ y (kept p gs) → Ahead k x y → Before k x y
+      inner : (x y : Group) → List·Memᴰ x (kept p gs) → List·Memᴰ y (kept p gs) → Ahead k x y → InFileOrder k x y
       inner x y a b (holds s c) = larger (at a ∙ sym (at b)) c
       inner x y a b (apart o) = absurd (o .off (h x (kept-in p gs a .0)) (subst (λ (i : ℕ). i ∈ y .taxa) (at b ∙ sym (at a)) (h y (kept-in p gs b .0))))
 
-      outer : (x y : Group) → List·Memᴰ x (ordered k n gs) → List·Memᴰ y (kept p gs) → Before k x y
+      outer : (x y : Group) → List·Memᴰ x (ordered k n gs) → List·Memᴰ y (kept p gs) → InFileOrder k x y
       outer x y a b = sooner (omega (arith, ordered-in n gs a .1, at b))
 
   -- None is lost and none is twice.
@@ -236,5 +237,5 @@ module _ (k : ℕ) where
         (h, s .sub h)
 
     -- So the file's order is document 01's.
-    pub file-order : (n : ℕ) → Line (Before k) (ordered k n (build k m cols S .groups))
+    pub file-order : (n : ℕ) → Line (InFileOrder k) (ordered k n (build k m cols S .groups))
     file-order n = ordered-line n (sh .lined) (λ x l. group-low l .0)

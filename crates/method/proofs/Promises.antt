@@ -8,10 +8,12 @@ use native.Mathlib.Decide.{decLt}
 use native.Mathlib.Omega.{arith}
 use lib.ListN.{length, List·getD-eq-default}
 use Rattle.taxa.specs.Sets.{_∈_, _⊆_, Disjoint, _∩_, count, low, all}
+use Rattle.taxa.specs.Groups.{NestedOrDisjoint}
+use Rattle.taxa.proofs.Groups.{before-differ}
 use Rattle.taxa.proofs.Members.{none, below, low-≤, in-all, all-<, all-fits, ∩-⊆, ⊆-trans, ⊆-refl, in-pow, pow-⊆, in-pos}
 use Rattle.taxa.proofs.Counts.{count-all, count-pos}
 use Rattle.method.specs.Split.{Column, Same, Rule, side, parted, divisionCost, splitCost, after, FlipsAt, splitParts}
-use Rattle.method.specs.Tree.{Group, Walk, walked, node, build, ordered, Line, Before, sooner, larger, Flips, total, Matrix, column, answer, Sound, ComesTo, Components, made, weighedFlips, Clade, Filled, group, single, NestedOrDisjoint, RootedTree, Fits}
+use Rattle.method.specs.Tree.{Group, Walk, walked, node, build, ordered, Line, InFileOrder, Flips, total, Matrix, column, answer, Sound, ComesTo, Components, made, weighedFlips, Clade, Filled, group, single, RootedTree, Fits}
 use Rattle.method.specs.Flow.{Flow, arcs, limits, FlowSearch, SplitPromise}
 use Rattle.method.proofs.Flips.{Proper}
 use Rattle.method.proofs.Listing.{side-rule}
@@ -45,16 +47,12 @@ module _ (M : Matrix) (ok : Sound M) where
 
   -- ---- the order of the groups: document 01's, and none twice
 
-  pub groups-order : Line (Before 64) (answer M .groups)
+  pub groups-order : Line (InFileOrder 64) (answer M .groups)
   unfolding answer
   groups-order = file-order 64 m file (all n) fits n
 
   pub groups-once : Line (λ (g h : Group). g .taxa ≢ h .taxa) (answer M .groups)
-  groups-once = line-map (λ x y l r b. differ b) groups-order
-    where
-      differ : {x y : Group} → Before 64 x y → x .taxa ≢ y .taxa
-      differ (sooner l) e = omega (arith, ap (low 64) e)
-      differ (larger s l) e = omega (arith, ap (count 64) e)
+  groups-once = line-map (λ x y l r b. before-differ b) groups-order
 
   -- ---- what the check sees to, and the walk
 

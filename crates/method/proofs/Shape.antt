@@ -1,28 +1,22 @@
 -- The groups of a build: each inside its part, of two or more taxa, and of any two the later one is a smaller part of the earlier or shares no taxon
 -- with it.
 use mathlib.Core.Path.{refl, sym, ap, _∙_, subst}
-use mathlib.Core.Logic.{_⊎_, inl, inr, ⊎-elim}
+use mathlib.Core.Logic.{inl, inr, ⊎-elim}
 use mathlib.Core.List.{List, [], _∷_, _++_, List·Memᴰ, List·Memᴰ·head, List·Memᴰ·tail, List·Memᴰ·append-cases, List·Memᴰ·cases-cons, List·Memᴰ·not-nil, List·Memᴰ·eq-of-singleton}
 use Prim.Native.Nat.{ℕ, _^_, _<_}
 use native.Mathlib.Omega.{arith}
 use Rattle.taxa.specs.Sets.{_⊆_, Disjoint, count}
+use Rattle.taxa.specs.Groups.{NestedOrDisjoint}
+use Rattle.taxa.proofs.Groups.{pair-sym}
 use Rattle.taxa.proofs.Members.{in∖, ⊆-refl, ⊆-trans}
 use Rattle.taxa.proofs.Counts.{count-⊆}
 use Rattle.method.specs.Split.{Column, after, splitParts}
-use Rattle.method.specs.Tree.{Group, walked, node, build, Line, end, and, NestedOrDisjoint}
+use Rattle.method.specs.Tree.{Group, walked, node, build, Line, end, and}
 use Rattle.method.proofs.Parts.{Parts, done, next, inside-R}
 use Rattle.method.proofs.Splits.{split-parts, part-in}
 use Rattle.method.proofs.Depth.{build-ind}
 
 -- ---- two sets, and two of a list
-
-pub disjoint-sym : {X Y : ℕ} → Disjoint X Y → Disjoint Y X
-disjoint-sym o = record { off = λ y x. o .off x y }
-
-pub pair-sym : {X Y : ℕ} → NestedOrDisjoint X Y → NestedOrDisjoint Y X
-pair-sym (inl s) = inr (inl s)
-pair-sym (inr (inl s)) = inl s
-pair-sym (inr (inr o)) = inr (inr (disjoint-sym o))
 
 pub line-++ : {A : Type 0} {R : A → A → Type 0} {xs ys : List A} → Line R xs → Line R ys → ((x y : A) → List·Memᴰ x xs → List·Memᴰ y ys → R x y) → Line R (xs ++ ys)
 line-++ end q h = q

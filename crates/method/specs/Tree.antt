@@ -7,6 +7,7 @@ use Prim.Native.Nat.{ℕ, zero, suc, _+_, _*_, _^_, _≤_, _<_}
 use lib.Dec.{ltb, eqb}
 use lib.ListN.{length, getD}
 use Rattle.taxa.specs.Sets.{_∈_, _∉_, _⊆_, Disjoint, _∩_, _∖_, count, low, all}
+use Rattle.taxa.specs.Groups.{NestedOrDisjoint, Before}
 use Rattle.method.specs.Split.{Column, raise, lower, Linked, splitCost, after, splitParts}
 
 -- ---- the walk
@@ -82,9 +83,8 @@ pub data Line {A : Type 0} (R : A → A → Type 0) : List A → Type 0 where
   and : {x : A} {xs : List A} → ((y : A) → List·Memᴰ y xs → R x y) → Line R xs → Line R (x ∷ xs)
 
 -- What that sentence says of two groups, the first before the second.
-pub data Before (k : ℕ) (x y : Group) : Type 0 where
-  sooner : low k (x .taxa) < low k (y .taxa) → Before k x y
-  larger : low k (x .taxa) ≡ low k (y .taxa) → count k (y .taxa) < count k (x .taxa) → Before k x y
+abbrev pub InFileOrder : ℕ → Group → Group → Type 0
+InFileOrder k g h = Before k (g .taxa) (h .taxa)
 
 -- ---- the answer
 
@@ -187,10 +187,6 @@ pub record Fills (X : ℕ) (c : Column) (F : ℕ) : Type 0 where
 -- They can be so that its 1-set in X is empty or a clade.
 abbrev pub Filled : (ℕ → Type 0) → ℕ → Column → Type 0
 Filled clade X c = (F : ℕ) × (F ≡ 0 ⊎ clade F) × F ⊆ X × Fills X c F
-
--- "Any two are nested or disjoint."
-abbrev pub NestedOrDisjoint : ℕ → ℕ → Type 0
-NestedOrDisjoint X Y = X ⊆ Y ⊎ (Y ⊆ X ⊎ Disjoint X Y)
 
 -- Any two of a family of sets are so.
 pub record Laminar (family : ℕ → Type 0) : Type 0 where

@@ -7,10 +7,9 @@ use native.Mathlib.Omega.{arith}
 use lib.ListN.{length, getD, length-map, List·getD-map}
 use Rattle.taxa.specs.Sum.{sum}
 use Rattle.taxa.proofs.Sums.{sum-first}
-use Rattle.method.specs.Tree.{Group, Flips, Line, end, and, Before, sooner, larger, Matrix, Sound, answer, total}
+use Rattle.method.specs.Tree.{Group, Flips, Line, end, and, Matrix, Sound, answer, total}
 use Rattle.method.proofs.Promises as promises
 use Rattle.answer.specs.Content.{Content, lengthOf}
-use Rattle.answer.specs.Lawful as lawful
 use Rattle.answer.specs.Lawful.{LawfulHead, LawfulGroups, LawfulFlips, Lawful}
 use Rattle.tree.specs.Build.{contentWith, contentFor, roomFor}
 use Rattle.tree.proofs.Lists.{getD-in, list-few}
@@ -36,11 +35,6 @@ total-sum : (gs : List Group) → total gs ≡ sum (length gs) (λ i. getD (map 
 unfolding total sum
 total-sum [] = refl
 total-sum (g ∷ gs) = ap (_+_ (g .cost)) (total-sum gs) ∙ sym (sum-first (length gs) (λ i. getD (map (λ (x : Group). x .cost) (g ∷ gs)) i 0))
-
--- Groups in the method's order stand in the file's.
-in-file-order : {x y : Group} → Before 64 x y → lawful.Before (x .taxa) (y .taxa)
-in-file-order (sooner l) = lawful.sooner l
-in-file-order (larger e l) = lawful.larger e l
 
 module _ (M : Matrix) (ok : Sound M) where
   abbrev n : ℕ
@@ -121,7 +115,7 @@ module _ (M : Matrix) (ok : Sound M) where
       record {
         two-or-more = λ i b. rw (taxa-at i) (promises.groups-hold M ok (group-in b) .1);
         known = λ i b. rw (taxa-at i) (promises.groups-hold M ok (group-in b) .0);
-        in-order = λ i j l b. rw (taxa-at i, taxa-at j) (in-file-order (line-later none-group (promises.groups-order M ok) i j l b));
+        in-order = λ i j l b. rw (taxa-at i, taxa-at j) (line-later none-group (promises.groups-order M ok) i j l b);
         nested-or-disjoint = λ i j b d. rw (taxa-at i, taxa-at j) (promises.groups-nested M ok (group-in b) (group-in d));
         first-is-all = λ two. let (rest, is) = promises.groups-first M ok two in taxa-at 0 ∙ ap (λ (l : List Group). getD l 0 none-group .taxa) is;
       }
