@@ -1,12 +1,10 @@
 -- Demand 2 and demand 1's refusals of document 01's own form of an answer: "the flip list is a lent list of entries". What is proved of three lists is said of entries.
 use mathlib.Core.Path.{_≡_, refl, sym, ap, _∙_}
-use mathlib.Core.Logic.{_≢_}
+use mathlib.Core.Logic.{_≢_, _↔_}
 use mathlib.Core.List.{List, _++_}
 use Prim.Native.Nat.{ℕ, _≤_}
 use lib.ListN.{length, take, drop}
 use Rattle.record.specs.Bytes.{over, File}
-use Rattle.record.specs.declared.Passed.{Passed}
-use Rattle.record.specs.declared.Passed.the-variants as passed
 use Rattle.answer.specs.declared.Answer.{Answer}
 use Rattle.answer.specs.declared.Reading.{Reading}
 use Rattle.answer.specs.declared.Verdict.{Verdict}
@@ -15,7 +13,6 @@ use Rattle.answer.specs.declared.Written.{Written}
 use Rattle.answer.specs.declared.Written.the-variants as written
 use Rattle.answer.specs.Content.{Content, contentIn, answerOf}
 use Rattle.answer.specs.Reading as reading
-use Rattle.answer.specs.Reading.{empty, readTests, answered}
 use Rattle.answer.specs.Writing as writing
 use Rattle.answer.specs.Writing.{Writes}
 use Rattle.answer.proofs.RoundTrip as lists
@@ -25,6 +22,8 @@ use Rattle.entries.proofs.Apart.{take-map, listed-entries, entries-given, apart
 use Rattle.split.specs.Columns.{matrixIn}
 use Rattle.tree.specs.Build.{contentFor}
 use Rattle.promises.specs.Held.{Leaves, InWidths}
+use Rattle.promises.proofs.Numbers.{reading-succeeds, writing-succeeds}
+use Rattle.promises.proofs.Refusals.{refused-reading, refused-write}
 use Rattle.promises.proofs.Answers.{answer-content, answer-taken}
 use Rattle.promises.proofs.OneAnswer.{one-write, no-two-answer-files}
 
@@ -97,18 +96,22 @@ pub one-write-of-entries : (a : Answer) (list : List Flip) {out : List ℕ} {r r
     → (r ≡ r′) × (out′ ≡ out″)
 one-write-of-entries a list x y = one-write x y
 
--- ---- "and then all lent memory is as before", and "0 for every other number": from the number that is returned
+-- ---- the number that is returned
 
+-- 0 exactly on success.
+pub reading-of-entries-succeeds : {file : List ℕ} {list : List Flip} {r : Reading} {list′ : List Flip} → ReadsEntries file list r list′
+    → reading.returned r .number ≡ 0 ↔ r .verdict ≡ verdict.Taken
+reading-of-entries-succeeds {file} {list} x = reading-succeeds file (length list) (x .answers)
+
+pub writing-of-entries-succeeds : (a : Answer) (list : List Flip) {out : List ℕ} {r : Written} {out′ : List ℕ} → WritesEntries a list out r out′
+    → writing.returned r .number ≡ 0 ↔ ((size : ℕ) × (r ≡ written.Length size))
+writing-of-entries-succeeds a list x = writing-succeeds x
+
+-- On any other, "0 for every other number", "and then all lent memory is as before".
 pub refused-read-of-entries : {file : List ℕ} {list : List Flip} {r : Reading} {list′ : List Flip} → ReadsEntries file list r list′ → reading.returned r .number ≢ 0
-    → (list′ ≡ list) × (reading.returned r .answer ≡ answerOf empty)
-unfolding reading.reading
-refused-read-of-entries {file} {list} {r} {list′} x refused = go (readTests file (length list)) (x .answers)
-  where
-    go : (p : Passed) → r ≡ answered (contentIn file) p → (list′ ≡ list) × (reading.returned r .answer ≡ answerOf empty)
-    go (passed.At here) e = absurd (refused (ap (λ (r : Reading). reading.returned r .number) e))
-    go (passed.Refused why) e = (x .list-after ∙ rw e, rw e)
+    → (r .answer ≡ answerOf reading.empty) × (list′ ≡ list)
+refused-read-of-entries {file} {list} x some = let (why, e, none) = refused-reading file (length list) (x .answers) some in (none, x .list-after ∙ rw e)
 
 pub refused-write-of-entries : (a : Answer) (list : List Flip) {out : List ℕ} {r : Written} {out′ : List ℕ} → WritesEntries a list out r out′ → writing.returned r .number ≢ 0
-    → (out′ ≡ out) × (writing.returned r .size ≡ 0)
-refused-write-of-entries a list {r = written.Length size} x refused = absurd (refused refl)
-refused-write-of-entries a list {r = written.Refused why} x refused = (x .out-after, refl)
+    → (writing.returned r .size ≡ 0) × (out′ ≡ out)
+refused-write-of-entries a list x some = refused-write x some

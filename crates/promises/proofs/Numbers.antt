@@ -116,6 +116,10 @@ reading-succeeds file room e = rw e (go (reading.readTests file room) (read-numb
     go (passed.At here) a = (λ z. refl, λ t. refl)
     go (passed.Refused why) a = (λ z. absurd (omega (arith, z, a .above refl)), λ t. absurd (let z : _≡_ {A = ℕ} 0 1 = cc in omega arith))
 
+pub read-succeeds : {file cs us ds : List ℕ} {r : Reading} {cs′ us′ ds′ : List ℕ} → reading.Reads file cs us ds r cs′ us′ ds′
+    → reading.returned r .number ≡ 0 ↔ r .verdict ≡ verdict.Taken
+read-succeeds {file} {cs} {us} {ds} x = reading-succeeds file (reading.listed cs us ds) (x .answers)
+
 -- Writing, from either.
 pub writing-succeeds : {c : Content} {entries : ℕ} {out : List ℕ} {r : Written} {out′ : List ℕ} → writing.Writes c entries out r out′
     → writing.returned r .number ≡ 0 ↔ ((size : ℕ) × (r ≡ written.Length size))
