@@ -51,5 +51,4 @@ pub fn write_lists(
 // What the type of an answer's value says of it holds of each value that there is in code.
 pub fn any_answer(answer: Answer)
     ensures { λ _. ⌜ InWidths answer ⌝ }
-{
-}
+{}
