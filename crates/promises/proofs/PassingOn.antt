@@ -16,7 +16,7 @@ use denote.RattleType.{RattleType}
 use denote.Laws.{Is, Are, Ises, Spells, Tellss, valss, shows}
 use denote.Steps.{said}
 use denote.Signature.{Signature, typeAt, typesAt}
-use denote.Triple.Entry.{Args, Vals, Res, alive, onEntry}
+use denote.Triple.Entry.{Args, Vals, Res, alive}
 use denote.Triple.Spec.{Spec, Back, tripleOf, Meets}
 use denote.Triple.Statement.{Contract}
 

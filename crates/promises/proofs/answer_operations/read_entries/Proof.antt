@@ -29,7 +29,7 @@ use Rattle.answer.proofs.Reading as D
 use Rattle.answer.proofs.Reading.Laws as D′
 use Rattle.entries.specs.declared.Flip.{Flip}
 use Rattle.entries.proofs.Flip as T
-use Rattle.entries.proofs.Walks.{span, downs, all-free, held, sets}
+use Rattle.entries.proofs.Walks.{downs, all-free, held, sets}
 use Rattle.entries.proofs.read_answer.Symbol as called-def
 use Rattle.entries.proofs.read_answer.Symbol.{name as #entries·read-answer}
 use Rattle.entries.proofs.read_answer as called′

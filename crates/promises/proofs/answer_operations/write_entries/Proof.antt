@@ -34,7 +34,7 @@ use Rattle.answer.proofs.Written as E
 use Rattle.answer.proofs.Written.Laws as E′
 use Rattle.entries.specs.declared.Flip.{Flip}
 use Rattle.entries.proofs.Flip as T
-use Rattle.entries.proofs.Walks.{span, downs, all-free, held, sets}
+use Rattle.entries.proofs.Walks.{downs, all-free, held, sets}
 use Rattle.entries.proofs.write_answer.Symbol as called-def
 use Rattle.entries.proofs.write_answer.Symbol.{name as #entries·write-answer}
 use Rattle.entries.proofs.write_answer as called′
