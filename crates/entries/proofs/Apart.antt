@@ -1,12 +1,12 @@
 -- A list of entries apart, as three lists, and together again. Reading into a list of entries is reading into its three lists (`apart-read`), and where
 -- it is taken the file's entries stand in front (`taken-entries`): what crate answer proves of three lists holds of entries.
-use mathlib.Core.Path.{_≡_, refl, sym, ap, _∙_}
+use mathlib.Core.Path.{_≡_, refl, sym, ap, _∙_, subst}
 use mathlib.Core.List.{List, [], _∷_, _++_, map, map-append}
 use Prim.Native.Nat.{ℕ, zero, suc}
 use native.Mathlib.Nat.{zero-add}
 use native.Mathlib.Omega.{arith}
 use lib.ListN.{length, take, drop, length-map}
-use lib.Seq.{take-at, drop-at}
+use lib.Seq.{take-at, drop-at, take-take}
 use Rattle.record.specs.Bytes.{over}
 use Rattle.answer.specs.Content.{contentIn, flipCount, columnsFrom, raisedFrom, loweredFrom}
 use Rattle.answer.specs.Reading.{reading, returned, listed, filled, Reads}
@@ -21,7 +21,7 @@ use Rattle.entries.proofs.Reading.{take-zipped}
 
 -- ---- apart, and together again
 
-pub take-map : {X Y : Type 0} (f : X → Y) (k : ℕ) (xs : List X) → take k (map f xs) ≡ map f (take k xs)
+take-map : {X Y : Type 0} (f : X → Y) (k : ℕ) (xs : List X) → take k (map f xs) ≡ map f (take k xs)
 take-map f zero xs = refl
 take-map f (suc k) [] = refl
 take-map {Y = Y} f (suc k) (x ∷ xs) = ap {B = List Y} (λ r. f x ∷ r) (take-map f k xs)
@@ -41,6 +41,13 @@ together (y ∷ ys) = ap {B = List Flip} (λ r. y ∷ r) (together ys)
 -- The entries of what is given are the list's first.
 pub entries-given : (a : Answer) (ys : List Flip) → entriesOf (contentWith a ys) ≡ take (a .flips) ys
 entries-given a ys = sym (take-zipped (a .flips) (entryColumns ys) (entryRaised ys) (entryLowered ys)) ∙ ap (take (a .flips)) (together ys)
+
+-- "Writing reads no place or list entry past the counts."
+pub first-entries : (a : Answer) (ys : List Flip) → contentWith a ys ≡ contentWith a (take (a .flips) ys)
+first-entries a ys = rw (first (λ f. f .column), first (λ f. f .raised), first (λ f. f .lowered))
+  where
+    first : (f : Flip → ℕ) → take (a .flips) (map f ys) ≡ take (a .flips) (map f (take (a .flips) ys))
+    first f = take-map f (a .flips) ys ∙ ap (map f) (sym (take-take (a .flips) (a .flips) ys (omega arith))) ∙ sym (take-map f (a .flips) (take (a .flips) ys))
 
 -- Three lists of one length, as entries.
 record Apart (cs us ds : List ℕ) : Type 0 where
@@ -90,10 +97,11 @@ module _ {file : List ℕ} {ys ys′ : List Flip} {r : Reading} (x : ReadsEntrie
       }
 
   -- The file's entries stand first, and the rest stays as it was.
-  pub taken-entries : r .verdict ≡ Taken → (take (flipCount file) ys′ ≡ entriesOf (contentIn file)) × (drop (flipCount file) ys′ ≡ drop (flipCount file) ys)
-  taken-entries t =
+  pub taken-entries : r .verdict ≡ Taken → {c : Content} → contentIn file ≡ c → (take (c .flips) ys′ ≡ entriesOf c) × (drop (c .flips) ys′ ≡ drop (c .flips) ys)
+  taken-entries t e =
       let k = flipCount file in
       let es = entriesOf (contentIn file) in
       let long = length-read file in
       let is : ys′ ≡ es ++ drop (length es) ys = x .list-after ∙ rw t in
+      subst (λ (c : Content). (take (c .flips) ys′ ≡ entriesOf c) × (drop (c .flips) ys′ ≡ drop (c .flips) ys)) e
       (ap (take k) is ∙ take-at es (drop (length es) ys) k long, ap (drop k) is ∙ drop-at es (drop (length es) ys) k long ∙ ap (λ (n : ℕ). drop n ys) long)

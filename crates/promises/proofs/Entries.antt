@@ -1,4 +1,5 @@
--- Demand 2 and demand 1's refusals of document 01's own form of an answer: "the flip list is a lent list of entries". What is proved of three lists is said of entries.
+-- Demand 2, and demand 1's refusals, of document 01's own form of an answer: "the flip list is a lent list of entries, each a column with its raised and lowered
+-- taxa". What is proved of three lists holds of a list of entries, which is read and written as its three lists are.
 use mathlib.Core.Path.{_≡_, refl, sym, ap, _∙_}
 use mathlib.Core.Logic.{_≢_, _↔_}
 use mathlib.Core.List.{List, _++_}
@@ -7,7 +8,6 @@ use lib.ListN.{length, take, drop}
 use Rattle.record.specs.Bytes.{over, File}
 use Rattle.answer.specs.declared.Answer.{Answer}
 use Rattle.answer.specs.declared.Reading.{Reading}
-use Rattle.answer.specs.declared.Verdict.{Verdict}
 use Rattle.answer.specs.declared.Verdict.the-variants as verdict
 use Rattle.answer.specs.declared.Written.{Written}
 use Rattle.answer.specs.declared.Written.the-variants as written
@@ -18,7 +18,7 @@ use Rattle.answer.specs.Writing.{Writes}
 use Rattle.answer.proofs.RoundTrip as lists
 use Rattle.entries.specs.declared.Flip.{Flip}
 use Rattle.entries.specs.Entries.{entryColumns, entryRaised, entryLowered, entriesOf, contentWith, stored, ReadsEntries, WritesEntries}
-use Rattle.entries.proofs.Apart.{take-map, listed-entries, entries-given, apart-read, taken-entries}
+use Rattle.entries.proofs.Apart.{listed-entries, entries-given, first-entries, apart-read, taken-entries}
 use Rattle.split.specs.Columns.{matrixIn}
 use Rattle.tree.specs.Build.{contentFor}
 use Rattle.promises.specs.Held.{Leaves, InWidths}
@@ -41,12 +41,12 @@ pub reading-entries-written : {a : Answer} (list : List Flip) → InWidths a →
     → (r ≡ record { verdict = verdict.Taken; answer = answerOf (contentWith a list) })
     × (take (a .flips) lent′ ≡ take (a .flips) list)
     × (drop (a .flips) lent′ ≡ drop (a .flips) lent)
-reading-entries-written {a} list fits w {lent} {r} {lent′} x room =
-    let (is-file, holds, reads) = lists.reading-what-was-written a (entryColumns list) (entryRaised list) (entryLowered list) (fits .taxa-places) (fits .costs-places) (fits .total-fits) (apart-written a list w) in
+reading-entries-written {a} list fits w {lent} x room =
+    let (_, holds, reads) =
+    lists.reading-what-was-written a (entryColumns list) (entryRaised list) (entryLowered list) (fits .taxa-places) (fits .costs-places) (fits .total-fits) (apart-written a list w) in
     let is = x .answers ∙ reads (length lent) room in
-    let (first, rest) = taken-entries x (ap (λ (r : Reading). r .verdict) is) in
-    let k = ap (λ (c : Content). c .flips) holds in
-    (is, ap (λ (n : ℕ). take n lent′) (sym k) ∙ first ∙ ap entriesOf holds ∙ entries-given a list, ap (λ (n : ℕ). drop n lent′) (sym k) ∙ rest ∙ ap (λ (n : ℕ). drop n lent) k)
+    let (first, rest) = taken-entries x (ap (λ (r : Reading). r .verdict) is) holds in
+    (is, first ∙ entries-given a list, rest)
 
 -- Writing what a reading took gives back the file: its length is returned, and it stands in the output, the rest as it was.
 pub writing-entries-read : {file : List ℕ} {list : List Flip} {r : Reading} {list′ : List Flip} → File file → ReadsEntries file list r list′ → r .verdict ≡ verdict.Taken
@@ -60,28 +60,20 @@ module _ {file answerFile : List ℕ} (f : File file) (b : Leaves file answerFil
 
   pub answer-reads-back-as-entries : {list : List Flip} {r : Reading} {list′ : List Flip} → ReadsEntries answerFile list r list′ → c .flips ≤ length list
       → (r ≡ record { verdict = verdict.Taken; answer = answerOf c }) × (take (c .flips) list′ ≡ entriesOf c) × (drop (c .flips) list′ ≡ drop (c .flips) list)
-  answer-reads-back-as-entries {list} {r} {list′} x room =
+  answer-reads-back-as-entries {list} x room =
       let holds = answer-content f b in
-      let k = ap (λ (c : Content). c .flips) holds in
-      let is = x .answers ∙ answer-taken f b (length list) (rw k room) in
-      let (first, rest) = taken-entries x (ap (λ (r : Reading). r .verdict) is) in
-      (is, ap (λ (n : ℕ). take n list′) (sym k) ∙ first ∙ ap entriesOf holds, ap (λ (n : ℕ). drop n list′) (sym k) ∙ rest ∙ ap (λ (n : ℕ). drop n list) k)
+      let is = x .answers ∙ answer-taken f b (length list) (rw (ap (λ (c : Content). c .flips) holds) room) in
+      let (first, rest) = taken-entries x (ap (λ (r : Reading). r .verdict) is) holds in
+      (is, first, rest)
 
 -- ---- "no two accepted files, matrix or answer, carry the same content"
-
--- A value, and the entries that it counts, as content.
-abbrev held : Answer → List Flip → Content
-held a es = record { n = a .n; m = a .m; groups = a .groups; flips = a .flips; total = a .total; taxa = take (a .groups) (a .taxa); costs = take (a .groups) (a .costs); columns = entryColumns es; raised = entryRaised es; lowered = entryLowered es }
-
-first-held : (a : Answer) (ys : List Flip) → contentWith a ys ≡ held a (take (a .flips) ys)
-first-held a ys = rw (take-map (λ (f : Flip). f .column) (a .flips) ys, take-map (λ (f : Flip). f .raised) (a .flips) ys, take-map (λ (f : Flip). f .lowered) (a .flips) ys)
 
 -- Two answer files from which readings take the same value and the same entries are the same.
 pub no-two-answer-files-of-entries : {file file₁ : List ℕ} {list list₁ : List Flip} {r r₁ : Reading} {list′ list₁′ : List Flip} → File file → File file₁
     → ReadsEntries file list r list′ → ReadsEntries file₁ list₁ r₁ list₁′ → r .verdict ≡ verdict.Taken → r₁ .verdict ≡ verdict.Taken
     → r .answer ≡ r₁ .answer → take (r .answer .flips) list′ ≡ take (r₁ .answer .flips) list₁′ → file ≡ file₁
 no-two-answer-files-of-entries {r = r} {r₁ = r₁} {list′ = list′} {list₁′ = list₁′} f f₁ x y t t₁ e es =
-    no-two-answer-files f f₁ (apart-read x) (apart-read y) t t₁ (first-held (r .answer) list′ ∙ (λ i. held (e i) (es i)) ∙ sym (first-held (r₁ .answer) list₁′))
+    no-two-answer-files f f₁ (apart-read x) (apart-read y) t t₁ (first-entries (r .answer) list′ ∙ (λ i. contentWith (e i) (es i)) ∙ sym (first-entries (r₁ .answer) list₁′))
 
 -- ---- two results that a contract allows coincide
 

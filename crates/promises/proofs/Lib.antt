@@ -1,4 +1,4 @@
--- The theorems, by demand.
+-- The theorems, by demand; and for the proofs by hand, a function that only calls another.
 pub mod Bytes
 pub mod Numbers
 pub mod Refusals

@@ -1,4 +1,5 @@
-// The operations on an answer, each called and nothing else, so that the demands rest on the code: an operation that promises less, or that asks for something, breaks a proof here.
+// The operations on an answer, each called and nothing else: one that promised less, or that required something, would break a proof here.
+// Of the list of entries the callers are proved by hand, as every function that has it.
 use answer::Answer;
 use answer::Reading;
 use answer::Written;
@@ -48,7 +49,7 @@ pub fn write_lists(
     answer::write(answer, columns, raised, lowered, out)
 }
 
-// What the type of an answer's value says of it holds of each value that there is in code.
+// What the theorems assume of an answer's value holds of each that there is in code.
 pub fn any_answer(answer: Answer)
     ensures { λ _. ⌜ InWidths answer ⌝ }
 {}
