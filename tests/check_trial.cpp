@@ -59,6 +59,12 @@ void specimen_cases(Tally& tally) {
     }
 }
 
+// A null pointer is the empty file, whatever length comes with it.
+void null_pointer(Tally& tally) {
+    for (std::size_t length : {std::size_t{0}, std::size_t{78}})
+        if (flipcut_check(nullptr, length) != packed_number(oracle::check({}))) tally.differ("a null pointer", {});
+}
+
 // A file of each m for the smallest n and the largest two.
 void every_size(Tally& tally, gen::Random& random) {
     for (unsigned n : {1u, 63u, 64u})
@@ -94,6 +100,7 @@ int main(int argc, char** argv) {
     Tally tally("check", words.folder);
     gen::Random random(1);
     specimen_cases(tally);
+    null_pointer(tally);
     every_size(tally, random);
     every_prefix_and_byte(tally, random);
     random_cases(tally, random, words.count);

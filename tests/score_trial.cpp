@@ -74,6 +74,9 @@ void specimen_cases(Tally& tally) {
     for (const Bytes& other : gen::prefixes(one.answer)) compare(tally, {one.matrix, other});
     compare(tally, {one.matrix, seven.answer});
     compare(tally, {{}, {}});
+    // A null pointer is the empty file, whatever length comes with it.
+    const std::uint64_t no_answer = flipcut_score(bytes_of(one.matrix), one.matrix.size(), nullptr, one.answer.size());
+    if (no_answer != packed_number(oracle::score(one.matrix, {}))) tally.differ("a null pointer for the answer", one.matrix);
 }
 
 }  // namespace

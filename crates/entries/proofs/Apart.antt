@@ -8,7 +8,7 @@ use native.Mathlib.Omega.{arith}
 use lib.ListN.{length, take, drop, length-map}
 use lib.Seq.{take-at, drop-at, take-take}
 use Rattle.record.specs.Bytes.{over}
-use Rattle.answer.specs.Content.{contentIn, flipCount, columnsFrom, raisedFrom, loweredFrom}
+use Rattle.answer.specs.Content.{Content, contentIn, flipCount, columnsFrom, raisedFrom, loweredFrom}
 use Rattle.answer.specs.Reading.{reading, returned, listed, filled, Reads}
 use Rattle.answer.specs.declared.Answer.{Answer}
 use Rattle.answer.specs.declared.Reading.{Reading}
