@@ -1,6 +1,6 @@
 -- What the build leaves of a file is the answer file of the method's answer (`leaves-file`); there is one for each file that the check takes
 -- (`build-leaves`); it reads back (`answer-content`, `answer-reads-back`); its groups, flips and total are the method's (`groups-are`, `flips-are`, `total-is`).
-use mathlib.Core.Path.{_≡_, refl, sym, ap, _∙_}
+use mathlib.Core.Path.{_≡_, refl, sym, ap, _∙_, subst}
 use mathlib.Core.Bool.{Bool, true, false, cond}
 use mathlib.Core.List.{List, map}
 use Prim.Native.Nat.{ℕ, zero, suc, _*_, _≤_}
@@ -35,6 +35,7 @@ use Rattle.tree.specs.Build.{contentFor, roomFor, takenOf, answered, built, out
 use Rattle.tree.proofs.Rules.{answer-lawful}
 use Rattle.promises.specs.Held.{Leaves, groupsIn, flipsIn, totalIn}
 use Rattle.promises.proofs.Bytes.{file-bytes}
+use Rattle.promises.proofs.Numbers.{build-succeeds}
 
 -- ---- lists of groups and flips, apart and together again
 
@@ -85,12 +86,11 @@ took file space room {size} {sum} e = go (checked file) refl e
     go (checks.Refused why) t w = none w
     go (checks.Taken n m) t w = tested n m t (ltb space (n * m)) (ltb room (roomFor n m)) w
 
-sizes : {size sum size′ sum′ : ℕ} → Taken size sum ≡ Taken size′ sum′ → (size ≡ size′) × (sum ≡ sum′)
-sizes e = (cc, cc)
-
 module _ {file answerFile : List ℕ} (b : Leaves file answerFile) where
-  it : Took file (length (b .ws)) (length (b .out)) (Taken (b .size) (b .sum))
-  it = took file (length (b .ws)) (length (b .out)) (b .builds .answers)
+  it : Took file (length (b .ws)) (length (b .out)) (b .r)
+  it =
+      let (size, sum, e) = build-succeeds (b .builds) .0 (b .success) in
+      subst (λ (r : Built). Took file (length (b .ws)) (length (b .out)) r) (sym e) (took file (length (b .ws)) (length (b .out)) (sym e ∙ b .builds .answers))
 
   -- The build takes only what the check takes.
   pub leaves-taken : (n : ℕ) × (m : ℕ) × (checks.Taken n m ≡ checked file)
@@ -101,11 +101,15 @@ module _ {file answerFile : List ℕ} (b : Leaves file answerFile) where
   unfolding outputAfter
   leaves-file =
       let c = contentFor (matrixIn file) in
-      b .bytes ∙ ap (take (b .size)) (b .builds .output) ∙ front-is (fileOf c) (b .out) (b .size) (length-file c ∙ sym (sizes (it .is) .0))
+      let output = b .builds .output ∙ ap (λ (r : Built). outputAfter file r (b .out)) (it .is) in
+      b .bytes ∙ (λ i. take (returned (it .is i) .size) (output i)) ∙ front-is (fileOf c) (b .out) (lengthOf c) (length-file c)
 
   -- The two numbers that the build returned are that file's length and the method's total.
-  pub leaves-numbers : (b .size ≡ length answerFile) × (b .sum ≡ contentFor (matrixIn file) .total)
-  leaves-numbers = let (size, sum) = sizes (it .is) in (size ∙ sym (ap length leaves-file ∙ length-file (contentFor (matrixIn file))), sum)
+  pub leaves-numbers : (returned (b .r) .size ≡ length answerFile) × (returned (b .r) .sum ≡ contentFor (matrixIn file) .total)
+  leaves-numbers = (
+    ap (λ (r : Built). returned r .size) (it .is) ∙ sym (ap length leaves-file ∙ length-file (contentFor (matrixIn file))),
+    ap (λ (r : Built). returned r .sum) (it .is),
+  )
 
 -- There is such an answer file for each file that the check takes, given the workspace and the room that document 01 asks.
 pub build-leaves : {file : List ℕ} {n m : ℕ} → checks.Taken n m ≡ checked file → (ws : List ℤ) (out : List ℕ) → n * m ≤ length ws → roomFor n m ≤ length out
@@ -117,11 +121,11 @@ build-leaves {file} {n} {m} taken ws out l k =
     record {
       ws = ws;
       out = out;
-      size = lengthOf c;
-      sum = c .total;
+      r = takenOf file;
       ws′ = workspaceAfter file (takenOf file) ws;
       out′ = outputAfter file (takenOf file) out;
       builds = record { answers = answers; numbers = ap returned answers; output = refl; workspace = refl };
+      success = refl;
       bytes = sym (front-is (fileOf c) out (lengthOf c) (length-file c));
     }
 

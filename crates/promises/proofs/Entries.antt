@@ -4,6 +4,7 @@ use mathlib.Core.Path.{_≡_, refl, sym, ap, _∙_}
 use mathlib.Core.Logic.{_≢_, _↔_}
 use mathlib.Core.List.{List, _++_}
 use Prim.Native.Nat.{ℕ, _≤_}
+use native.Mathlib.Omega.{arith}
 use lib.ListN.{length, take, drop}
 use Rattle.record.specs.Bytes.{over, File}
 use Rattle.answer.specs.declared.Answer.{Answer}
@@ -32,26 +33,32 @@ apart-written : (a : Answer) (list : List Flip) {out : List ℕ} {w : Written} {
     → Writes (contentWith a list) (reading.listed (entryColumns list) (entryRaised list) (entryLowered list)) out w out′
 apart-written a list w = rw (listed-entries list) w
 
+-- "Success returns 0."
+taken : {file : List ℕ} {list : List Flip} {r : Reading} {list′ : List Flip} → ReadsEntries file list r list′ → reading.returned r .number ≡ 0 → r .verdict ≡ verdict.Taken
+taken {file} {list} x success = reading-succeeds file (length list) (x .answers) .0 success
+
 -- ---- "Answer files read back to what was written"
 
 -- Of what a writing that succeeded wrote, any reading into a list with room for its flips is taken: it returns the value that was written, places past the last
 -- group 0, and leaves in the first places of the list the entries that were written, the rest as it was.
-pub reading-entries-written : {a : Answer} (list : List Flip) → InWidths a → {out : List ℕ} {size : ℕ} {out′ : List ℕ} → WritesEntries a list out (written.Length size) out′
-    → {lent : List Flip} {r : Reading} {lent′ : List Flip} → ReadsEntries (take size out′) lent r lent′ → a .flips ≤ length lent
+pub reading-entries-written : {a : Answer} (list : List Flip) → InWidths a → {out : List ℕ} {w : Written} {out′ : List ℕ} → WritesEntries a list out w out′ → writing.returned w .number ≡ 0
+    → {lent : List Flip} {r : Reading} {lent′ : List Flip} → ReadsEntries (take (writing.returned w .size) out′) lent r lent′ → a .flips ≤ length lent
     → (r ≡ record { verdict = verdict.Taken; answer = answerOf (contentWith a list) })
     × (take (a .flips) lent′ ≡ take (a .flips) list)
     × (drop (a .flips) lent′ ≡ drop (a .flips) lent)
-reading-entries-written {a} list fits w {lent} x room =
-    let (_, holds, reads) =
-    lists.reading-what-was-written a (entryColumns list) (entryRaised list) (entryLowered list) (fits .taxa-places) (fits .costs-places) (fits .total-fits) (apart-written a list w) in
+reading-entries-written {a} list fits {w = written.Length size} writes success {lent} x room =
+    let apart = apart-written a list writes in
+    let (_, holds, reads) = lists.reading-what-was-written a (entryColumns list) (entryRaised list) (entryLowered list) (fits .taxa-places) (fits .costs-places) (fits .total-fits) apart in
     let is = x .answers ∙ reads (length lent) room in
     let (first, rest) = taken-entries x (ap (λ (r : Reading). r .verdict) is) holds in
     (is, first ∙ entries-given a list, rest)
+reading-entries-written list fits {w = written.Refused why} writes success x room =
+    let (size, e) = writing-succeeds writes .0 success in absurd (let z : _≡_ {A = ℕ} 0 1 = cc in omega arith)
 
 -- Writing what a reading took gives back the file: its length is returned, and it stands in the output, the rest as it was.
-pub writing-entries-read : {file : List ℕ} {list : List Flip} {r : Reading} {list′ : List Flip} → File file → ReadsEntries file list r list′ → r .verdict ≡ verdict.Taken
+pub writing-entries-read : {file : List ℕ} {list : List Flip} {r : Reading} {list′ : List Flip} → File file → ReadsEntries file list r list′ → reading.returned r .number ≡ 0
     → {out : List ℕ} {w : Written} {out′ : List ℕ} → WritesEntries (r .answer) list′ out w out′ → length file ≤ length out → (w ≡ written.Length (length file)) × (out′ ≡ over file 0 out)
-writing-entries-read {r = r} {list′ = list′} f x taken w room = lists.writing-what-was-read f (apart-read x) taken room (apart-written (r .answer) list′ w)
+writing-entries-read {r = r} {list′ = list′} f x success w room = lists.writing-what-was-read f (apart-read x) (taken x success) room (apart-written (r .answer) list′ w)
 
 -- The build's own answer file: with room for its flips any reading of it is taken, and what it returns and leaves in the list is the method's answer.
 module _ {file answerFile : List ℕ} (f : File file) (b : Leaves file answerFile) where
@@ -70,10 +77,10 @@ module _ {file answerFile : List ℕ} (f : File file) (b : Leaves file answerFil
 
 -- Two answer files from which readings take the same value and the same entries are the same.
 pub no-two-answer-files-of-entries : {file file₁ : List ℕ} {list list₁ : List Flip} {r r₁ : Reading} {list′ list₁′ : List Flip} → File file → File file₁
-    → ReadsEntries file list r list′ → ReadsEntries file₁ list₁ r₁ list₁′ → r .verdict ≡ verdict.Taken → r₁ .verdict ≡ verdict.Taken
+    → ReadsEntries file list r list′ → ReadsEntries file₁ list₁ r₁ list₁′ → reading.returned r .number ≡ 0 → reading.returned r₁ .number ≡ 0
     → r .answer ≡ r₁ .answer → take (r .answer .flips) list′ ≡ take (r₁ .answer .flips) list₁′ → file ≡ file₁
-no-two-answer-files-of-entries {r = r} {r₁ = r₁} {list′ = list′} {list₁′ = list₁′} f f₁ x y t t₁ e es =
-    no-two-answer-files f f₁ (apart-read x) (apart-read y) t t₁ (first-entries (r .answer) list′ ∙ (λ i. contentWith (e i) (es i)) ∙ sym (first-entries (r₁ .answer) list₁′))
+no-two-answer-files-of-entries {r = r} {r₁ = r₁} {list′ = list′} {list₁′ = list₁′} f f₁ x y success success₁ e es =
+    no-two-answer-files f f₁ (apart-read x) (apart-read y) (taken x success) (taken y success₁) (first-entries (r .answer) list′ ∙ (λ i. contentWith (e i) (es i)) ∙ sym (first-entries (r₁ .answer) list₁′))
 
 -- ---- two results that a contract allows coincide
 

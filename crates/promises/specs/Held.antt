@@ -13,9 +13,9 @@ use Rattle.answer.specs.declared.Answer.{Answer}
 use Rattle.answer.specs.Content.{contentIn}
 use Rattle.search.specs.Workspace.{outs, inns}
 use Rattle.split.specs.Groups.{IsSplit}
-use Rattle.tree.specs.declared.Built.the-variants.{Taken}
+use Rattle.tree.specs.declared.Built.{Built}
 use Rattle.tree.specs.Lists as lists
-use Rattle.tree.specs.Build.{Builds}
+use Rattle.tree.specs.Build.{returned, Builds}
 
 -- ---- the flow search
 
@@ -28,16 +28,16 @@ pub record FlowStands (n m : ℕ) (cols : ℕ → Column) (S : ℕ) (ws : List �
 
 -- ---- a matrix file and its answer file
 
--- The build took a matrix file, and these bytes are what it wrote: as many of its output as the length that it returned.
+-- The build took a matrix file, "success returns 0", and these bytes are what it wrote: as many of its output as the length that it returned.
 pub record Leaves (file answer : List ℕ) : Type 0 where
   pub ws : List ℤ
   pub out : List ℕ
-  pub size : ℕ
-  pub sum : ℕ
+  pub r : Built
   pub ws′ : List ℤ
   pub out′ : List ℕ
-  pub builds : Builds file ws out (Taken size sum) ws′ out′
-  pub bytes : answer ≡ take size out′
+  pub builds : Builds file ws out r ws′ out′
+  pub success : returned r .number ≡ 0
+  pub bytes : answer ≡ take (returned r .size) out′
 
 -- The groups of an answer file, each with its split cost.
 abbrev pub groupsIn : List ℕ → List Group
