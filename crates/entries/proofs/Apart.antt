@@ -16,7 +16,7 @@ use Rattle.answer.specs.declared.Verdict.{Verdict}
 use Rattle.answer.specs.declared.Verdict.the-variants.{Taken, Refused}
 use Rattle.answer.proofs.Runs.{length-entries}
 use Rattle.entries.specs.declared.Flip.{Flip}
-use Rattle.entries.specs.Entries.{zipped, entryColumns, entryRaised, entryLowered, entriesOf, contentWith, stored, ReadsEntries}
+use Rattle.entries.specs.Entries.{zipped, entryColumns, entryRaised, entryLowered, entriesOf, entryContent, stored, ReadsEntries}
 use Rattle.entries.proofs.Reading.{take-zipped}
 
 -- ---- apart, and together again
@@ -39,11 +39,11 @@ together [] = refl
 together (y ∷ ys) = ap {B = List Flip} (λ r. y ∷ r) (together ys)
 
 -- The entries of what is given are the list's first.
-pub entries-given : (a : Answer) (ys : List Flip) → entriesOf (contentWith a ys) ≡ take (a .flips) ys
+pub entries-given : (a : Answer) (ys : List Flip) → entriesOf (entryContent a ys) ≡ take (a .flips) ys
 entries-given a ys = sym (take-zipped (a .flips) (entryColumns ys) (entryRaised ys) (entryLowered ys)) ∙ ap (take (a .flips)) (together ys)
 
 -- "Writing reads no place or list entry past the counts."
-pub first-entries : (a : Answer) (ys : List Flip) → contentWith a ys ≡ contentWith a (take (a .flips) ys)
+pub first-entries : (a : Answer) (ys : List Flip) → entryContent a ys ≡ entryContent a (take (a .flips) ys)
 first-entries a ys = rw (first (λ f. f .column), first (λ f. f .raised), first (λ f. f .lowered))
   where
     first : (f : Flip → ℕ) → take (a .flips) (map f ys) ≡ take (a .flips) (map f (take (a .flips) ys))

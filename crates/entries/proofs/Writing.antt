@@ -22,7 +22,7 @@ use Rattle.answer.proofs.Walks.{given-head}
 use Rattle.answer.proofs.Stages.{head-stops}
 use Rattle.answer.proofs.Outcomes.{given-refused}
 use Rattle.entries.specs.declared.Flip.{Flip}
-use Rattle.entries.specs.Entries.{entryColumns, entryRaised, entryLowered, contentWith, withFirst}
+use Rattle.entries.specs.Entries.{entryColumns, entryRaised, entryLowered, entryContent, withFirst}
 use Rattle.entries.proofs.Reading.{room-same}
 
 -- ---- the head is judged as for the whole list
@@ -66,7 +66,7 @@ module _ (a : Answer) (ys : List Flip) (cs us ds : List ℕ) where
   given n = contentOf a (take n (entryColumns ys)) (take n (entryRaised ys)) (take n (entryLowered ys))
 
   abbrev whole : Content
-  whole = contentWith a ys
+  whole = entryContent a ys
 
   all-given : length ys ≤ 256 → given k ≡ whole
   all-given l =

@@ -37,8 +37,8 @@ abbrev pub entriesOf : Content → List Flip
 entriesOf c = zipped (c .columns) (c .raised) (c .lowered)
 
 -- The content of a value and a list of entries.
-abbrev pub contentWith : Answer → List Flip → Content
-contentWith a list = contentOf a (entryColumns list) (entryRaised list) (entryLowered list)
+abbrev pub entryContent : Answer → List Flip → Content
+entryContent a list = contentOf a (entryColumns list) (entryRaised list) (entryLowered list)
 
 -- A list with its first k elements replaced by those of another.
 abbrev pub withFirst : {X : Type 0} → ℕ → List X → List X → List X
@@ -61,7 +61,7 @@ pub record ReadsEntries (file : List ℕ) (list : List Flip) (r : Reading) (list
 
 -- What writing promises of its answer and of the output: what writing the content of the value and the list promises.
 abbrev pub WritesEntries : Answer → List Flip → List ℕ → Written → List ℕ → Type 0
-WritesEntries a list out r out′ = Writes (contentWith a list) (length list) out r out′
+WritesEntries a list out r out′ = Writes (entryContent a list) (length list) out r out′
 
 -- What reading for a list of so many entries leaves in three parts of 256: the flips that it counts stand first, and have room.
 pub record InParts (file : List ℕ) (entries : ℕ) (r : Reading) (columns raised lowered : List ℕ) : Type 0 where

@@ -18,7 +18,7 @@ use Rattle.answer.specs.Writing as writing
 use Rattle.answer.specs.Writing.{Writes}
 use Rattle.answer.proofs.RoundTrip as lists
 use Rattle.entries.specs.declared.Flip.{Flip}
-use Rattle.entries.specs.Entries.{entryColumns, entryRaised, entryLowered, entriesOf, contentWith, stored, ReadsEntries, WritesEntries}
+use Rattle.entries.specs.Entries.{entryColumns, entryRaised, entryLowered, entriesOf, entryContent, stored, ReadsEntries, WritesEntries}
 use Rattle.entries.proofs.Apart.{listed-entries, entries-given, first-entries, apart-read, taken-entries}
 use Rattle.split.specs.Columns.{matrixIn}
 use Rattle.tree.specs.Build.{contentFor}
@@ -30,7 +30,7 @@ use Rattle.promises.proofs.OneAnswer.{one-write, no-two-answer-files}
 
 -- What writing promises of a list of entries, as it promises it of three lists.
 apart-written : (a : Answer) (list : List Flip) {out : List ℕ} {w : Written} {out′ : List ℕ} → WritesEntries a list out w out′
-    → Writes (contentWith a list) (reading.listed (entryColumns list) (entryRaised list) (entryLowered list)) out w out′
+    → Writes (entryContent a list) (reading.listed (entryColumns list) (entryRaised list) (entryLowered list)) out w out′
 apart-written a list w = rw (listed-entries list) w
 
 -- "Success returns 0."
@@ -43,7 +43,7 @@ taken {file} {list} x success = reading-succeeds file (length list) (x .answers)
 -- group 0, and leaves in the first places of the list the entries that were written, the rest as it was.
 pub reading-entries-written : {a : Answer} (list : List Flip) → InWidths a → {out : List ℕ} {w : Written} {out′ : List ℕ} → WritesEntries a list out w out′ → writing.returned w .number ≡ 0
     → {lent : List Flip} {r : Reading} {lent′ : List Flip} → ReadsEntries (take (writing.returned w .size) out′) lent r lent′ → a .flips ≤ length lent
-    → (r ≡ record { verdict = verdict.Taken; answer = answerOf (contentWith a list) })
+    → (r ≡ record { verdict = verdict.Taken; answer = answerOf (entryContent a list) })
     × (take (a .flips) lent′ ≡ take (a .flips) list)
     × (drop (a .flips) lent′ ≡ drop (a .flips) lent)
 reading-entries-written {a} list fits {w = written.Length size} writes success {lent} x room =
@@ -80,7 +80,7 @@ pub no-two-answer-files-of-entries : {file file₁ : List ℕ} {list list₁ : L
     → ReadsEntries file list r list′ → ReadsEntries file₁ list₁ r₁ list₁′ → reading.returned r .number ≡ 0 → reading.returned r₁ .number ≡ 0
     → r .answer ≡ r₁ .answer → take (r .answer .flips) list′ ≡ take (r₁ .answer .flips) list₁′ → file ≡ file₁
 no-two-answer-files-of-entries {r = r} {r₁ = r₁} {list′ = list′} {list₁′ = list₁′} f f₁ x y success success₁ e es =
-    no-two-answer-files f f₁ (apart-read x) (apart-read y) (taken x success) (taken y success₁) (first-entries (r .answer) list′ ∙ (λ i. contentWith (e i) (es i)) ∙ sym (first-entries (r₁ .answer) list₁′))
+    no-two-answer-files f f₁ (apart-read x) (apart-read y) (taken x success) (taken y success₁) (first-entries (r .answer) list′ ∙ (λ i. entryContent (e i) (es i)) ∙ sym (first-entries (r₁ .answer) list₁′))
 
 -- ---- two results that a contract allows coincide
 
