@@ -9,10 +9,12 @@ use Rattle.record.specs.Bytes.{over}
 use Rattle.record.specs.Records.{onward}
 use Rattle.record.specs.declared.Passed.{Passed}
 use Rattle.record.specs.declared.Passed.the-variants as passed
+use Rattle.answer.specs.declared.Answer.{Answer}
 use Rattle.answer.specs.declared.Written.{Written}
 use Rattle.answer.specs.declared.Written.the-variants.{Length, Refused}
-use Rattle.answer.specs.Content.{Content, fileOf, lengthOf}
+use Rattle.answer.specs.Content.{Content, contentOf, fileOf, lengthOf}
 use Rattle.answer.specs.Tests.{judge, asGiven, tests}
+use Rattle.answer.specs.Reading.{listed}
 
 -- All tests of writing; `listed` is how many entries the flip list has, `room` how many bytes the output.
 unfoldable pub writeTests : Content → ℕ → ℕ → Passed
@@ -52,3 +54,7 @@ pub record Writes (c : Content) (entries : ℕ) (out : List ℕ) (r : Written) (
   pub answers : r ≡ writing c entries (length out)
   pub numbers : returned r ≡ writeNumbers c entries (length out)
   pub out-after : out′ ≡ put r (fileOf c) out
+
+-- The same of a value and a flip list that stands in three parts.
+abbrev pub WritesLists : Answer → List ℕ → List ℕ → List ℕ → List ℕ → Written → List ℕ → Type 0
+WritesLists a columns raised lowered out r out′ = Writes (contentOf a columns raised lowered) (listed columns raised lowered) out r out′

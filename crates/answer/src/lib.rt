@@ -16,9 +16,9 @@ use record::number::u16_at;
 use writer::put_answer;
 ghost use mathlib.Core.Path.{_≡_};
 ghost use Prim.Native.Nat.{min};
-ghost use Rattle.answer.specs.Content.{answerOf, contentOf};
-ghost use Rattle.answer.specs.Reading.{listed, empty, Reads};
-ghost use Rattle.answer.specs.Writing.{Writes};
+ghost use Rattle.answer.specs.Content.{answerOf};
+ghost use Rattle.answer.specs.Reading.{empty, Reads};
+ghost use Rattle.answer.specs.Writing.{WritesLists};
 
 // What an answer holds beside its flips, in file widths; the groups have 63 places, those past the last 0.
 pub struct Answer {
@@ -111,9 +111,7 @@ pub fn write(
     lowered: &[u64],
     out: &mut [u8],
 ) -> Written
-    ensures { λ r. ⌜
-        Writes (contentOf answer (now (columns .entry)) (now (raised .entry)) (now (lowered .entry)))
-        (listed (now (columns .entry)) (now (raised .entry)) (now (lowered .entry))) (now (out .entry)) r (now (out .exit)) ⌝ }
+    ensures { λ r. ⌜ WritesLists answer (now (columns .entry)) (now (raised .entry)) (now (lowered .entry)) (now (out .entry)) r (now (out .exit)) ⌝ }
 {
     let entries = least(columns.len(), raised.len(), lowered.len());
     let passed = pass_given(answer, columns, raised, lowered, entries);

@@ -85,17 +85,20 @@ module _ {matrix answer : List ℕ} (f : File matrix) {r : Scored} (x : Scores m
       let in-method : j < length (matrixIn matrix .columns) = omega (arith, taken-count f (it .taken)) in
       omega (arith, taken-sound f (it .taken) .weighs j in-method, ap (λ (c : method.Column). c .weight) (file-column matrix in-method))
 
+  many : length (matrixOf matrix .columns) ≡ it .m
+  many = taken-columns f (it .taken)
+
+  -- Other nodes with as many flips come to the same sum.
+  summed : (flips : Column → ℕ → ℕ) {node : ℕ → ℕ} → ((j : ℕ) → j < it .m → flips (columnIn matrix j) (nodeIn answer (columnIn matrix j)) ≡ flips (columnIn matrix j) (node j))
+      → sum (it .m) (weighed matrix flips (λ j. nodeIn answer (columnIn matrix j))) ≡ sum (length (matrixOf matrix .columns)) (weighed matrix flips node)
+  summed flips {node} same = sum-≡ (it .m) (λ j l. ap (λ (k : ℕ). columnIn matrix j .weight * k) (same j l)) ∙ ap (λ (k : ℕ). sum k (weighed matrix flips node)) (sym many)
+
   -- "Raises and lowers, each times its weight": the sums over the columns, each at a node that counts for it.
   pub score-is : (node : ℕ → ℕ) → ((j : ℕ) → j < length (matrixOf matrix .columns) → Counts (columnIn matrix j) (NodeIn answer) (node j))
       → (returned r .raises ≡ sum (length (matrixOf matrix .columns)) (λ j. columnIn matrix j .weight * raisesAt (columnIn matrix j) (node j)))
       × (returned r .lowers ≡ sum (length (matrixOf matrix .columns)) (λ j. columnIn matrix j .weight * lowersAt (columnIn matrix j) (node j)))
   unfolding raisesOf lowersOf
-  score-is node counts =
-      let many : length (matrixOf matrix .columns) ≡ it .m = taken-columns f (it .taken) in
-      let summed : (flips : Column → ℕ → ℕ) → ((j : ℕ) → j < it .m → flips (columnIn matrix j) (nodeIn answer (columnIn matrix j)) ≡ flips (columnIn matrix j) (node j))
-      → sum (it .m) (weighed matrix flips (λ j. nodeIn answer (columnIn matrix j))) ≡ sum (length (matrixOf matrix .columns)) (weighed matrix flips node) =
-      λ flips same. sum-≡ (it .m) (λ j l. ap (λ (k : ℕ). columnIn matrix j .weight * k) (same j l)) ∙ ap (λ (k : ℕ). sum k (weighed matrix flips node)) (sym many) in
-      let told = it .is in (
-        ap (λ (s : Scored). returned s .raises) told ∙ summed raisesAt (λ j l. same-flips (columnIn matrix j) (weighs l) (column-node j) (counts j (omega (arith, many))) .0),
-        ap (λ (s : Scored). returned s .lowers) told ∙ summed lowersAt (λ j l. same-flips (columnIn matrix j) (weighs l) (column-node j) (counts j (omega (arith, many))) .1),
-      )
+  score-is node counts = (
+    ap (λ (s : Scored). returned s .raises) (it .is) ∙ summed raisesAt {node = node} (λ j l. same-flips (columnIn matrix j) (weighs l) (column-node j) (counts j (omega (arith, many))) .0),
+    ap (λ (s : Scored). returned s .lowers) (it .is) ∙ summed lowersAt {node = node} (λ j l. same-flips (columnIn matrix j) (weighs l) (column-node j) (counts j (omega (arith, many))) .1),
+  )

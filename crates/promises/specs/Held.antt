@@ -1,4 +1,5 @@
--- What people hold: a matrix file, and the answer file that the build leaves, with its groups, its flips and its total.
+-- What people hold: a matrix file, and the answer file that the build leaves, with its groups, its flips and its total. And what the search leaves before
+-- it is cleared.
 use mathlib.Core.Path.{_≡_}
 use mathlib.Core.List.{List}
 use mathlib.Core.Logic.{_↔_}

@@ -4,10 +4,11 @@ use answer::Answer;
 use answer::Reading;
 use answer::Written;
 use entries::Flip;
-ghost use Rattle.answer.specs.Content.{contentOf};
-ghost use Rattle.answer.specs.Reading.{listed, Reads};
-ghost use Rattle.answer.specs.Writing.{Writes};
+use matrix::Checked;
+ghost use Rattle.answer.specs.Reading.{Reads};
+ghost use Rattle.answer.specs.Writing.{WritesLists};
 ghost use Rattle.entries.specs.Entries.{ReadsEntries, WritesEntries};
+ghost use Rattle.record.specs.Bytes.{File};
 ghost use Rattle.promises.specs.Held.{InWidths};
 
 pub fn read_entries(file: &[u8], list: &mut [Flip]) -> Reading
@@ -42,14 +43,19 @@ pub fn write_lists(
     lowered: &[u64],
     out: &mut [u8],
 ) -> Written
-    ensures { λ r. ⌜
-        Writes (contentOf answer (now (columns .entry)) (now (raised .entry)) (now (lowered .entry)))
-        (listed (now (columns .entry)) (now (raised .entry)) (now (lowered .entry))) (now (out .entry)) r (now (out .exit)) ⌝ }
+    ensures { λ r. ⌜ WritesLists answer (now (columns .entry)) (now (raised .entry)) (now (lowered .entry)) (now (out .entry)) r (now (out .exit)) ⌝ }
 {
     answer::write(answer, columns, raised, lowered, out)
 }
 
-// What the theorems assume of an answer's value holds of each that there is in code.
+// What the theorems assume of a file holds of each that there is in code: it is made of bytes. (The prover tells so of a slice that is used.)
+pub fn any_file(file: &[u8]) -> Checked
+    ensures { λ _. ⌜ File (now (file .entry)) ⌝ }
+{
+    matrix::check(file)
+}
+
+// And what they assume of an answer's value.
 pub fn any_answer(answer: Answer)
     ensures { λ _. ⌜ InWidths answer ⌝ }
 {}
