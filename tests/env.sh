@@ -3,6 +3,7 @@
 #   cc, cxx    the compilers for programs that link what Rattle compiles, which is x86-64 code
 #   run        the words before such a program: none, or the toolchain's emulator
 #   run_rattle the words before a program of target/bin: as rt itself runs it
+#   c_flags, cxx_flags
 # and installs what is missing from Debian's packages.
 
 machine=$(uname -m)
@@ -28,7 +29,9 @@ x86_64)
     ;;
 aarch64)
     need x86_64-linux-gnu-g++ g++-x86-64-linux-gnu
-    cc=x86_64-linux-gnu-gcc cxx=x86_64-linux-gnu-g++ run=("$tools/bin/qemu-x86_64")
+    # The emulator finds the x86-64 C and C++ libraries where Debian's cross compiler has them. (Its libm.a names files
+    # where it has none, so a static program cannot be linked.)
+    cc=x86_64-linux-gnu-gcc cxx=x86_64-linux-gnu-g++ run=("$tools/bin/qemu-x86_64" -L /usr/x86_64-linux-gnu)
     ;;
 *)
     echo "no way is known to run x86-64 code on this machine, $machine" >&2
@@ -37,6 +40,5 @@ aarch64)
 esac
 run_rattle=(${run[@]+"${run[@]}"} "$tools/lib/ld-linux-x86-64.so.2" --library-path "$tools/lib")
 
-# Static, so that an emulated program needs no library of its own kind of machine.
-c_flags=(-std=c11 -O2 -Wall -Wextra -Werror -static)
-cxx_flags=(-std=c++17 -O2 -Wall -Wextra -Werror -static)
+c_flags=(-std=c11 -O2 -Wall -Wextra -Werror)
+cxx_flags=(-std=c++17 -O2 -Wall -Wextra -Werror)
