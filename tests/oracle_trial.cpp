@@ -37,7 +37,7 @@ void specimen_numbers(Tally& tally) {
     if (oracle::build(single, 0, 20).file.size() != 20) tally.differ("the length of specimen 6's answer", single);
     if (!(oracle::score(first, first_answer) == oracle::ScoreOutcome{{}, 0, 2}))
         tally.differ("the score of specimen 1", first);
-    if (!(oracle::score(zeros, zeros_answer) == oracle::ScoreOutcome{{}, 5, 0}))
+    if (!(oracle::score(zeros, zeros_answer) == oracle::ScoreOutcome{{}, 0, 0}))
         tally.differ("the score of specimen 7", zeros);
 }
 
@@ -61,7 +61,7 @@ std::uint64_t weighed_flips(const Matrix& matrix, const Answer& answer) {
     return sum;
 }
 
-// What is built reads back, is written back, and its total is the weighed flips; a tree's own matrix needs none.
+// What is built reads back, is written back, its total is the weighed flips and its score no more; a tree's own matrix needs none.
 void build_case(Tally& tally, gen::Random& random) {
     gen::Style style = gen::random_style(random);
     const Matrix matrix = gen::random_matrix(random, static_cast<unsigned>(random.between(1, 24)),
@@ -75,6 +75,8 @@ void build_case(Tally& tally, gen::Random& random) {
     if (oracle::write(read.answer.value, read.answer.flips, written.size()).file != written)
         tally.differ("what is read is not written back", file);
     if (answer.value.total != weighed_flips(matrix, answer)) tally.differ("total and weighed flips", file);
+    const oracle::ScoreOutcome score = oracle::score(file, written);
+    if (score.raises + score.lowers > answer.value.total) tally.differ("a score above the total", file);
     if (style.shape == gen::Shape::tree && answer.value.total != 0) tally.differ("flips for a tree's own matrix", file);
     tally.agreed(0);
 }

@@ -86,7 +86,8 @@ WriteCase write_case(Random& random) {
 }
 
 ScoreCase score_case(Random& random) {
-    const Matrix matrix = random_matrix(random);
+    Matrix matrix = random_matrix(random);
+    if (random.chance(50)) take_ones_out(random, matrix);
     const unsigned m = static_cast<unsigned>(matrix.columns.size());
     Answer answer;
     switch (random.below(8)) {

@@ -114,4 +114,15 @@ Matrix random_matrix(Random& random) {
     return random_matrix(random, n, m, random_style(random));
 }
 
+void take_ones_out(Random& random, Matrix& matrix) {
+    const unsigned shares[] = {10, 50, 90, 100};
+    const unsigned share = shares[random.below(4)];
+    for (Column& column : matrix.columns) {
+        if (!random.chance(share)) continue;
+        const TaxonSet kept[] = {0, ~TaxonSet{0}, random.bits()};
+        column.zeros |= column.ones & kept[random.below(3)];
+        column.ones = 0;
+    }
+}
+
 }  // namespace gen

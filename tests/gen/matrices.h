@@ -34,6 +34,9 @@ oracle::Matrix random_matrix(Random& random, unsigned n, unsigned m, const Style
 // Any size from 1x0 to 64x256, small ones more often, in any style.
 oracle::Matrix random_matrix(Random& random);
 
+// Takes all 1s out of some of the columns, or of all of them: each becomes 0, or unknown, or either.
+void take_ones_out(Random& random, oracle::Matrix& matrix);
+
 // The clades of a random tree over n taxa that have two or more taxa, the whole first.
 std::vector<oracle::TaxonSet> random_clades(Random& random, unsigned n);
 

@@ -14,22 +14,23 @@ std::vector<TaxonSet> nodes_of(const AnswerValue& value) {
     return nodes;
 }
 
-struct Distance {
-    std::uint64_t raises;
-    std::uint64_t lowers;
-};
-
-Distance distance(const Column& column, TaxonSet cluster) {
+Flips flips_to(const Column& column, TaxonSet cluster) {
     return {column.weight * size(column.zeros & cluster), column.weight * size(column.ones & ~cluster)};
 }
 
 // The least distance counts; among equal ones the one with fewest raises.
-bool counts_before(const Distance& x, const Distance& y) {
+bool counts_before(const Flips& x, const Flips& y) {
     const std::uint64_t of_x = x.raises + x.lowers, of_y = y.raises + y.lowers;
     return of_x != of_y ? of_x < of_y : x.raises < y.raises;
 }
 
 }  // namespace
+
+Flips nearest_flips(const Column& column, const AnswerValue& tree) {
+    std::vector<Flips> all;
+    for (TaxonSet node : nodes_of(tree)) all.push_back(flips_to(column, node));
+    return *std::min_element(all.begin(), all.end(), counts_before);
+}
 
 ScoreOutcome score(const Bytes& matrix_file, const Bytes& answer_file) {
     ScoreOutcome outcome;
@@ -38,11 +39,10 @@ ScoreOutcome score(const Bytes& matrix_file, const Bytes& answer_file) {
         const AnswerValue tree = read_answer(answer_file).value;
         if (matrix.n != tree.n || matrix.columns.size() != tree.m) refuse(15, 0);
         for (const Column& column : matrix.columns) {
-            std::vector<Distance> distances;
-            for (TaxonSet node : nodes_of(tree)) distances.push_back(distance(column, node));
-            const Distance least = *std::min_element(distances.begin(), distances.end(), counts_before);
-            outcome.raises += least.raises;
-            outcome.lowers += least.lowers;
+            if (column.ones == 0) continue;
+            const Flips flips = nearest_flips(column, tree);
+            outcome.raises += flips.raises;
+            outcome.lowers += flips.lowers;
         }
     } catch (const Refusal& refusal) {
         outcome.refusal = refusal;

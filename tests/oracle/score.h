@@ -18,6 +18,14 @@ struct ScoreOutcome {
     }
 };
 
+// The flips, each times its weight, that bring a column to the nearest node of the tree. This was the score of
+// every column before document 02's C-12; it still is that of a column with a 1.
+struct Flips {
+    std::uint64_t raises;
+    std::uint64_t lowers;
+};
+Flips nearest_flips(const Column& column, const AnswerValue& tree);
+
 // The operation: score. No list is lent, so an answer is refused by its file alone.
 ScoreOutcome score(const Bytes& matrix_file, const Bytes& answer_file);
 

@@ -1,14 +1,14 @@
--- The score of every accepted pair of files: for each column the node that counts (`column-node`), and raises and lowers are the sums over the
--- nodes that count, whichever of them is taken for a column (`score-is`).
+-- The score of every accepted pair of files: for each column there is a node that counts (`column-node`), and raises and lowers are the sums over the
+-- columns at such nodes, whichever of them are taken (`score-is`). How it was before document 02's C-12: `score-before`.
 use mathlib.Core.Path.{_≡_, refl, sym, ap, _∙_}
 use mathlib.Core.Bool.{Bool, true, false, _&&_, cond}
 use mathlib.Core.List.{List}
-use Prim.Native.Nat.{ℕ, _*_, _<_}
+use Prim.Native.Nat.{ℕ, _+_, _<_}
 use native.Mathlib.Omega.{arith}
 use lib.Dec.{eqb}
 use lib.ListN.{length}
 use borrow.Author.Tests.{eqb-true}
-use Rattle.taxa.specs.Sum.{sum}
+use Rattle.taxa.specs.Sum.{sum, inside}
 use Rattle.taxa.proofs.Sums.{sum-≡}
 use Rattle.record.specs.Bytes.{File}
 use Rattle.record.specs.Records.{refused}
@@ -28,9 +28,10 @@ use Rattle.split.proofs.Loading.{file-column}
 use Rattle.split.proofs.Soundness.{taken-count, taken-sound}
 use Rattle.score.specs.declared.Scored.{Scored}
 use Rattle.score.specs.declared.Scored.the-variants as scores
-use Rattle.score.specs.Score.{raisesAt, lowersAt, Counts, raisesOf, lowersOf}
+use Rattle.score.specs.Score.{ColumnScore, Counts, literalScore, columnScore, raisesOf, lowersOf}
 use Rattle.score.specs.Operation.{NodeIn, nodeIn, raisesIn, lowersIn, agreed, afterAnswer, afterMatrix, scored, returned, Scores}
-use Rattle.score.proofs.Nearest.{node-counts, same-flips}
+use Rattle.score.proofs.Nearest.{node-counts}
+use Rattle.score.proofs.Columns.{same-score, raises-before, lowers-before}
 use Rattle.promises.proofs.Numbers.{score-succeeds}
 
 -- Two files of which a score is returned: the check took the matrix, and n and m agree.
@@ -64,10 +65,6 @@ module _ (matrix answer : List ℕ) (raises lowers : ℕ) where
   unfolding scored
   agree = checked-first (checked matrix) refl
 
--- The flips of column j at a node, each times its weight.
-abbrev weighed : List ℕ → (Column → ℕ → ℕ) → (ℕ → ℕ) → ℕ → ℕ
-weighed matrix flips node j = let c = columnIn matrix j in c .weight * flips c (node j)
-
 module _ {matrix answer : List ℕ} (f : File matrix) {r : Scored} (x : Scores matrix answer r) (none : returned r .number ≡ 0) where
   it : Agree matrix answer r
   it = let (raises, lowers, e) = score-succeeds x .0 none in rw e (agree matrix answer raises lowers (rw e at (x .answers)))
@@ -85,20 +82,34 @@ module _ {matrix answer : List ℕ} (f : File matrix) {r : Scored} (x : Scores m
       let in-method : j < length (matrixIn matrix .columns) = omega (arith, taken-count f (it .taken)) in
       omega (arith, taken-sound f (it .taken) .weighs j in-method, ap (λ (c : method.Column). c .weight) (file-column matrix in-method))
 
-  many : length (matrixOf matrix .columns) ≡ it .m
+  -- How many columns the matrix has.
+  abbrev all-columns : ℕ
+  all-columns = length (matrixOf matrix .columns)
+
+  many : all-columns ≡ it .m
   many = taken-columns f (it .taken)
 
-  -- Other nodes with as many flips come to the same sum.
-  summed : (flips : Column → ℕ → ℕ) {node : ℕ → ℕ} → ((j : ℕ) → j < it .m → flips (columnIn matrix j) (nodeIn answer (columnIn matrix j)) ≡ flips (columnIn matrix j) (node j))
-      → sum (it .m) (weighed matrix flips (λ j. nodeIn answer (columnIn matrix j))) ≡ sum (length (matrixOf matrix .columns)) (weighed matrix flips node)
-  summed flips {node} same = sum-≡ (it .m) (λ j l. ap (λ (k : ℕ). columnIn matrix j .weight * k) (same j l)) ∙ ap (λ (k : ℕ). sum k (weighed matrix flips node)) (sym many)
+  -- At other nodes that count for the columns with a 1, every column's score is the same.
+  module _ (node : ℕ → ℕ) (counts : (j : ℕ) → j < all-columns → (columnIn matrix j .ones ≡ 0 → ⊥) → Counts (columnIn matrix j) (NodeIn answer) (node j)) where
+    same : {j : ℕ} → j < it .m → columnScore (columnIn matrix j) (nodeIn answer (columnIn matrix j)) ≡ columnScore (columnIn matrix j) (node j)
+    same {j} l = same-score (columnIn matrix j) (weighs l) (λ some. (column-node j, counts j (omega (arith, many)) some))
 
-  -- "Raises and lowers, each times its weight": the sums over the columns, each at a node that counts for it.
-  pub score-is : (node : ℕ → ℕ) → ((j : ℕ) → j < length (matrixOf matrix .columns) → Counts (columnIn matrix j) (NodeIn answer) (node j))
-      → (returned r .raises ≡ sum (length (matrixOf matrix .columns)) (λ j. columnIn matrix j .weight * raisesAt (columnIn matrix j) (node j)))
-      × (returned r .lowers ≡ sum (length (matrixOf matrix .columns)) (λ j. columnIn matrix j .weight * lowersAt (columnIn matrix j) (node j)))
-  unfolding raisesOf lowersOf
-  score-is node counts = (
-    ap (λ (s : Scored). returned s .raises) (it .is) ∙ summed raisesAt {node = node} (λ j l. same-flips (columnIn matrix j) (weighs l) (column-node j) (counts j (omega (arith, many))) .0),
-    ap (λ (s : Scored). returned s .lowers) (it .is) ∙ summed lowersAt {node = node} (λ j l. same-flips (columnIn matrix j) (weighs l) (column-node j) (counts j (omega (arith, many))) .1),
-  )
+    summed : (direction : ColumnScore → ℕ) → sum (it .m) (λ j. direction (columnScore (columnIn matrix j) (nodeIn answer (columnIn matrix j))))
+        ≡ sum all-columns (λ j. direction (columnScore (columnIn matrix j) (node j)))
+    summed direction = sum-≡ (it .m) (λ j l. ap direction (same l)) ∙ ap (λ (k : ℕ). sum k (λ j. direction (columnScore (columnIn matrix j) (node j)))) (sym many)
+
+    -- "Raises and lowers, each times its weight": the sums over the columns, each with a 1 at a node that counts for it.
+    pub score-is : (returned r .raises ≡ sum all-columns (λ j. columnScore (columnIn matrix j) (node j) .raises))
+        × (returned r .lowers ≡ sum all-columns (λ j. columnScore (columnIn matrix j) (node j) .lowers))
+    unfolding raisesOf lowersOf
+    score-is = (
+      ap (λ (s : Scored). returned s .raises) (it .is) ∙ summed (λ s. s .raises),
+      ap (λ (s : Scored). returned s .lowers) (it .is) ∙ summed (λ s. s .lowers),
+    )
+
+    -- "No other column's score may change" (document 02, C-12): by the score as it was before, the lowers are those returned, and the raises those
+    -- returned and what columns without a 1 were charged.
+    pub score-before : (sum all-columns (λ j. literalScore (columnIn matrix j) (node j) .raises)
+        ≡ returned r .raises + sum all-columns (inside (λ j. eqb (columnIn matrix j .ones) 0) (λ j. literalScore (columnIn matrix j) (node j) .raises)))
+        × (sum all-columns (λ j. literalScore (columnIn matrix j) (node j) .lowers) ≡ returned r .lowers)
+    score-before = (rw (score-is .0) (raises-before (columnIn matrix) node all-columns), rw (score-is .1) (lowers-before (columnIn matrix) node all-columns))

@@ -11,7 +11,7 @@ use Rattle.answer.specs.Content.{run, headBytes, groupBytes, flipsBytes, endByt
 use Rattle.answer.specs.Rules.{counted, headFault, follows, placed, compatible, compatibleAll, groupFault, floorOf, kept as keptEntry, entryFault}
 use Rattle.answer.specs.Tests.{judge, walk, headTest, groupTest, entryTest, endTest, tests}
 use Rattle.answer.specs.Reading.{fileTests}
-use Rattle.score.specs.Score.{distance, nearer, nearestIn, nodeFor, raisesOf, lowersOf}
+use Rattle.score.specs.Score.{distance, nearer, nearestIn, nodeFor, columnScore, raisesOf, lowersOf}
 use Rattle.score.specs.Operation.{agreed, scored}
 use Rattle.method.specs.Split.{raise, lower, least, share, division, flip, divisionCost, key, side, flipped, apart, part, partsOf, parts}
 use Rattle.method.specs.Tree.{walked, node, grown, build, kept, ordered, flipList, total, column, answer}
@@ -19,5 +19,5 @@ use Rattle.tree.specs.Build.{contentFor, answered, built, outputAfter}
 use Rattle.promises.specs.Specimens.{Row, tells, table}
 
 pub specimens : map (λ (x : Row). tells (x .asked)) table ≡ map (λ (x : Row). x .told) table
-unfolding tells sum count _∩_ _∪_ _∖_ within low numberAt bytesOf over step nothingAfter openingOf recordBytes columnsFrom matrixOf headJudged headPassed columnJudged columnPassed columnsPassed endPassed filePassed checked run headBytes groupBytes flipsBytes endBytes fileOf least raise lower share flip division divisionCost key side flipped apart part partsOf parts walked node grown build kept ordered flipList total answer column contentFor answered built outputAfter taxaIn costsIn columnsListed raisedFrom loweredFrom counted headFault follows placed compatible compatibleAll groupFault floorOf keptEntry entryFault judge walk headTest groupTest entryTest endTest tests fileTests distance nearer nearestIn nodeFor raisesOf lowersOf agreed scored
+unfolding tells sum count _∩_ _∪_ _∖_ within low numberAt bytesOf over step nothingAfter openingOf recordBytes columnsFrom matrixOf headJudged headPassed columnJudged columnPassed columnsPassed endPassed filePassed checked run headBytes groupBytes flipsBytes endBytes fileOf least raise lower share flip division divisionCost key side flipped apart part partsOf parts walked node grown build kept ordered flipList total answer column contentFor answered built outputAfter taxaIn costsIn columnsListed raisedFrom loweredFrom counted headFault follows placed compatible compatibleAll groupFault floorOf keptEntry entryFault judge walk headTest groupTest entryTest endTest tests fileTests distance nearer nearestIn nodeFor columnScore raisesOf lowersOf agreed scored
 specimens = refl

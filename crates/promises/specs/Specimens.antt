@@ -79,7 +79,7 @@ tells (score file answer) = let r = scoring.scoreNumbers file answer in record {
 
 -- ---- the table
 
--- What is asked, and what document 01 says is told.
+-- What is asked, and what document 01, as document 02 changed it, says is told.
 pub record Row : Type 0 where
   pub asked : Asked
   pub told : Told
@@ -138,9 +138,9 @@ table =
     ∷ answers (head 3 1 ++ column 1 0b111 0 ++ end) 36 0 (answerHead 3 1 1 0 0 ++ group 7 0 ++ answerEnd)
     -- 6
     ∷ answers (head 1 0 ++ end) 20 0 (answerHead 1 0 0 0 0 ++ answerEnd)
-    -- 7
+    -- 7, its score as of document 02's C-12
     ∷ answers seventh 36 0 seventhAnswer
-    ∷ scores seventh seventhAnswer 5 0
+    ∷ scores seventh seventhAnswer 0 0
     -- "{0,5,6}, {5,6}, {1,2} is one [walking order], yet {1,2} precedes {5,6} here."
     ∷ answers (head 7 3 ++ column 1 0x61 0x1e ++ column 1 0x60 0x1f ++ column 1 0x06 0x79 ++ end) 84 0
     (answerHead 7 3 4 0 0 ++ group 0x7f 0 ++ group 0x61 0 ++ group 0x06 0 ++ group 0x60 0 ++ answerEnd)

@@ -1,4 +1,5 @@
 -- Laws of the score.
 pub mod Nearest
+pub mod Columns
 pub mod Scoring
 pub mod Places

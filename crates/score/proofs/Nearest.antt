@@ -13,8 +13,7 @@ use borrow.Author.Tests.{lt-ltb, le-ltb, eq-eqb, ne-eqb, ltb-true, ltb-false, eq
 use borrow.Author.Count.{below-more}
 use Rattle.record.proofs.Steps.{either-way}
 use Rattle.matrix.specs.declared.Column.{Column}
-use Rattle.score.specs.Score.{raisesAt, lowersAt, leaf, Node, at-leaf, at-group, distance, Counts, nodeFor, nearer, nearest, nearestIn, raisesOf, lowersOf}
-use Rattle.taxa.proofs.Sums.{sum-next}
+use Rattle.score.specs.Score.{raisesAt, lowersAt, leaf, Node, at-leaf, at-group, distance, Counts, nodeFor, nearer, nearest, nearestIn}
 
 -- ---- the rows of `nearer`
 
@@ -116,13 +115,3 @@ module _ (c : Column) where
       let few : raisesAt c X ≡ raisesAt c Y = omega (arith, a .fewest Y (b .is-node) (sym near), b .fewest X (a .is-node) near) in
       let sum = sym (mul-div-cancel-left (raisesAt c X + lowersAt c X) w) ∙ ap (λ (d : ℕ). d / c .weight) near ∙ mul-div-cancel-left (raisesAt c Y + lowersAt c Y) w in
       (few, omega arith)
-
--- One column more.
-module _ (column : ℕ → Column) (node : Column → ℕ) (m : ℕ) where
-  pub raises-next : raisesOf column node (m + 1) ≡ raisesOf column node m + column m .weight * raisesAt (column m) (node (column m))
-  unfolding raisesOf
-  raises-next = sum-next m _
-
-  pub lowers-next : lowersOf column node (m + 1) ≡ lowersOf column node m + column m .weight * lowersAt (column m) (node (column m))
-  unfolding lowersOf
-  lowers-next = sum-next m _

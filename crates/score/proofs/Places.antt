@@ -4,13 +4,10 @@ use mathlib.Core.Path.{_≡_, refl}
 use mathlib.Core.Bool.{_||_, _&&_}
 use mathlib.Core.List.{List}
 use Prim.Native.Nat.{ℕ, zero, suc, _+_, _*_, _^_, _≤_, _<_}
-use native.Mathlib.Nat.{mul-le-mul-left}
 use native.Mathlib.Omega.{arith}
 use lib.Dec.{ltb, eqb, lit≤}
 use lib.ListN.{getD}
 use Rattle.taxa.specs.Sets.{within, count, all}
-use Rattle.taxa.specs.Sum.{sum}
-use Rattle.taxa.proofs.Counts.{count-le}
 use Rattle.taxa.proofs.Sums.{sum-bound}
 use Rattle.record.specs.Bytes.{File}
 use Rattle.record.specs.Records as records
@@ -34,8 +31,9 @@ use Rattle.answer.specs.Reading.{fileTests}
 use Rattle.answer.proofs.Files.{headOf, groupsOf, flipsOf, endOf, head-leads}
 use Rattle.score.specs.declared.Scored.{Scored}
 use Rattle.score.specs.declared.Scored.the-variants as scores
-use Rattle.score.specs.Score.{raisesAt, lowersAt, raisesOf, lowersOf}
+use Rattle.score.specs.Score.{raisesOf, lowersOf}
 use Rattle.score.specs.Operation.{nodeIn, agreed, afterAnswer, afterMatrix, scored}
+use Rattle.score.proofs.Columns.{column-small}
 
 -- The score's numbers, and 0 where nothing is at fault.
 abbrev Few : ℕ → Type 0
@@ -125,10 +123,6 @@ module _ (file : List ℕ) where
 
 -- ---- the score
 
--- m sums of at most 64 flips of a weight below 2^16.
-weighed-small : (weight flips : ℕ → ℕ) → ((j : ℕ) → weight j < 65536) → ((j : ℕ) → flips j ≤ 64) → (m : ℕ) → sum m (λ j. weight j * flips j) ≤ m * 4194240
-weighed-small weight flips w f m = sum-bound m 4194240 (λ j l. omega (arith, mul-le-mul-left (weight j) (f j), w j))
-
 -- What fits the bits that C gets.
 abbrev pub Small : Scored → Type 0
 Small (scores.Taken up down) = (up .0 < 2 ^ 31) × (down .0 < 2 ^ 31)
@@ -139,8 +133,8 @@ module _ {matrix : List ℕ} (f : File matrix) (answer : List ℕ) where
   unfolding agreed raisesOf lowersOf
   taken-small n m l =
       let weights : (j : ℕ) → columnIn matrix j .weight < 65536 = λ j. at-lt 2 (12 + 22 * j) f in
-      let up = weighed-small (λ j. columnIn matrix j .weight) (λ j. raisesAt (columnIn matrix j) (nodeIn answer (columnIn matrix j))) weights (λ j. count-le 64 _) m in
-      let down = weighed-small (λ j. columnIn matrix j .weight) (λ j. lowersAt (columnIn matrix j) (nodeIn answer (columnIn matrix j))) weights (λ j. count-le 64 _) m in
+      let up = sum-bound m 4194240 (λ j l. column-small (columnIn matrix j) (nodeIn answer (columnIn matrix j)) (weights j) .0) in
+      let down = sum-bound m 4194240 (λ j l. column-small (columnIn matrix j) (nodeIn answer (columnIn matrix j)) (weights j) .1) in
       either-way Small (eqb (contentIn answer .n) n && eqb (contentIn answer .m) m) (omega (arith, up), omega (arith, down)) (lit≤ tt, lit≤ tt)
 
   after : (n m : ℕ) → m ≤ 256 → (p : Passed) → By Few 6660 p → Small (afterAnswer matrix answer n m p)

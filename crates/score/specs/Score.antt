@@ -1,4 +1,4 @@
--- The score (document 01, "Score"; document 000, equations 1 to 3): for each column the flips that bring it to one node of the tree.
+-- The score (document 01, "Score"; document 000, equations 1 to 3): for each column with a 1 the flips that bring it to one node of the tree.
 use mathlib.Core.Path.{_≡_}
 use mathlib.Core.Bool.{Bool, _||_, _&&_, cond}
 use mathlib.Core.List.{List}
@@ -53,10 +53,23 @@ nearestIn c cluster (suc k) best = nearest c (cluster k) (nearestIn c cluster k 
 unfoldable pub nodeFor : ℕ → List ℕ → ℕ → Column → ℕ
 nodeFor n groups k c = nearestIn c (λ i. getD groups i 0) k (nearestIn c leaf n (leaf 0))
 
--- Raises of a matrix, "each times its weight": the sum over its columns (equation 3).
+-- A column's score: the two directions apart.
+pub record ColumnScore : Type 0 where
+  pub raises : ℕ
+  pub lowers : ℕ
+
+-- The score "literally from equations 1 and 2": the flips that bring a column to its node, "each times its weight".
+abbrev pub literalScore : Column → ℕ → ColumnScore
+literalScore c X = record { raises = c .weight * raisesAt c X; lowers = c .weight * lowersAt c X }
+
+-- "A column with an empty 1-set now scores 0 raises and 0 lowers. No other column's score may change" (document 02, C-12).
+unfoldable pub columnScore : Column → ℕ → ColumnScore
+columnScore c X = cond (eqb (c .ones) 0) (record { raises = 0; lowers = 0 }) (literalScore c X)
+
+-- Raises of a matrix: the sum over its columns (equation 3), each at its node.
 unfoldable pub raisesOf : (ℕ → Column) → (Column → ℕ) → ℕ → ℕ
-raisesOf column node m = sum m (λ j. column j .weight * raisesAt (column j) (node (column j)))
+raisesOf column node m = sum m (λ j. columnScore (column j) (node (column j)) .raises)
 
 -- Lowers, alike.
 unfoldable pub lowersOf : (ℕ → Column) → (Column → ℕ) → ℕ → ℕ
-lowersOf column node m = sum m (λ j. column j .weight * lowersAt (column j) (node (column j)))
+lowersOf column node m = sum m (λ j. columnScore (column j) (node (column j)) .lowers)

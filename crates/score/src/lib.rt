@@ -1,4 +1,4 @@
-// The score of an answer against a matrix: for each column the flips that bring it to the nearest node of the tree.
+// The score of an answer against a matrix: for each column with a 1 the flips that bring it to the nearest node of the tree.
 // Promises: for any two byte strings, raises and lowers are those of specs/Score.antt, or the one refusal that document 01
 // assigns. Rests on taxa, record, matrix and answer.
 use answer::reader::answer_in;
@@ -110,12 +110,15 @@ fn weighed(weight: u16, flips: u32) -> u32
     weight as u32 * flips
 }
 
-// A column's flips to its node added to those before it.
+// A column's score at its node added to those before it: nothing, whatever the node, if the column has no 1.
 fn with_column(sum: Sums, it: Column, node: u64) -> Sums
     requires { ⌜ (sum .raises .0 ≤ 255 * 4194240) × (sum .lowers .0 ≤ 255 * 4194240) ⌝ }
-    ensures raised { λ r. ⌜ (r .raises .0 ≡ sum .raises .0 + it .weight * score.raisesAt it node) × (r .raises .0 ≤ sum .raises .0 + 4194240) ⌝ }
-    ensures lowered { λ r. ⌜ (r .lowers .0 ≡ sum .lowers .0 + it .weight * score.lowersAt it node) × (r .lowers .0 ≤ sum .lowers .0 + 4194240) ⌝ }
+    ensures raised { λ r. ⌜ (r .raises .0 ≡ sum .raises .0 + score.columnScore it node .raises) × (r .raises .0 ≤ sum .raises .0 + 4194240) ⌝ }
+    ensures lowered { λ r. ⌜ (r .lowers .0 ≡ sum .lowers .0 + score.columnScore it node .lowers) × (r .lowers .0 ≤ sum .lowers .0 + 4194240) ⌝ }
 {
+    if it.ones == 0 {
+        return sum;
+    }
     let raises = sum.raises;
     let lowers = sum.lowers;
     Sums {

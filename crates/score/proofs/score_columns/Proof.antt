@@ -6,7 +6,7 @@ use Prim.Native.Nat.{_-_, _*_, _≤_}
 use Rattle.taxa.specs.Sum.{sum}
 use Rattle.matrix.specs.Matrix.{columnIn}
 use Rattle.score.specs.Score.{nodeFor, raisesOf, lowersOf}
-use Rattle.score.proofs.Nearest.{raises-next, lowers-next}
+use Rattle.score.proofs.Columns.{raises-next, lowers-next}
 use Rattle.score.proofs.score_columns.Statement.{statement}
 use Rattle.score.proofs.score_columns.Tie as tie
 

@@ -1,10 +1,16 @@
--- `score::with_column` meets its contract, by what it calls.
+-- `score::with_column` meets its contract: nothing without a 1 (`without-ones`), else the flips at the node (`with-ones`), by what it calls.
 use borrow.Author.Needs.{needs}
 use native.Mathlib.Omega.{arith}
 use mathlib.Core.Path.{ap}
 use Prim.Native.Nat.{_*_}
+use Rattle.score.proofs.Columns.{without-ones, with-ones}
 use Rattle.score.proofs.with_column.Statement.{statement}
 use Rattle.score.proofs.with_column.Tie as tie
+
+returns : tie.Need-returns
+returns c =
+    let given = c .before .before .args in
+    rw (without-ones (given .it) (given .node) (omega arith)) ((omega arith, omega arith), (omega arith, omega arith))
 
 raises-at-requires : tie.Need-raises-at-requires
 raises-at-requires c κs = search needs
@@ -12,8 +18,8 @@ raises-at-requires c κs = search needs
 weighed-requires : tie.Need-weighed-requires
 weighed-requires c κs = search needs
 
-add-t8 : tie.Need-add-t8
-add-t8 c = search needs
+add-t9 : tie.Need-add-t9
+add-t9 c = search needs
 
 lowers-at-requires : tie.Need-lowers-at-requires
 lowers-at-requires c κs = search needs
@@ -21,25 +27,26 @@ lowers-at-requires c κs = search needs
 weighed-requires-2 : tie.Need-weighed-requires-2
 weighed-requires-2 c κs = search needs
 
-add-t12 : tie.Need-add-t12
-add-t12 c = search needs
+add-t13 : tie.Need-add-t13
+add-t13 c = search needs
 
-returns : tie.Need-returns
-returns c =
-    let weight = c .before .before .before .before .before .before .before .before .args .it .weight in
+returns-2 : tie.Need-returns-2
+returns-2 c =
     let raised = c .before .before .before .before in
-    let up = ap (_*_ weight) (raised .before .raises-at .ensures .0) in
-    let down = ap (_*_ weight) (c .before .before .lowers-at .ensures .0) in
-    ((omega (arith, raised .weighed .ensures, up), omega (arith, raised .weighed .ensures)), (omega (arith, c .before .weighed2 .ensures, down), omega (arith, c .before .weighed2 .ensures)))
+    let given = raised .before .before .before .before .before .before .args in
+    let up = ap (_*_ (given .it .weight)) (raised .before .raises-at .ensures .0) in
+    let down = ap (_*_ (given .it .weight)) (c .before .before .lowers-at .ensures .0) in
+    rw (with-ones (given .it) (given .node) (omega arith)) ((omega (arith, raised .weighed .ensures, up), omega (arith, raised .weighed .ensures)), (omega (arith, c .before .weighed2 .ensures, down), omega (arith, c .before .weighed2 .ensures)))
 
 pub with-column-spec : {M : Type 1} → statement M
 with-column-spec =
     tie.close
     (tie.spec
+    returns
     raises-at-requires
     weighed-requires
-    add-t8
+    add-t9
     lowers-at-requires
     weighed-requires-2
-    add-t12
-    returns)
+    add-t13
+    returns-2)
