@@ -3,7 +3,7 @@
 #   cc, cxx    the compilers for programs that link what Rattle compiles, which is x86-64 code
 #   run        the words before such a program: none, or the toolchain's emulator
 #   run_rattle the words before a program of target/bin: as rt itself runs it
-#   c_flags, cxx_flags
+#   c_flags, cxx_flags   the words after a compiler
 # and installs what is missing from Debian's packages.
 
 machine=$(uname -m)
