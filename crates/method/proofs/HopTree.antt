@@ -64,11 +64,11 @@ pub record Joined (R R′ : ℕ → Bool) (from via turn width from′ via′ tu
   pub width-off : (x : ℕ) → x ≢ j → width′ x ≡ width x
 
 module _ {n m : ℕ} {cap : ℕ → ℕ → ℕ} {thr : ℕ → ℕ} {out inn : ℕ → ℕ → ℕ} {s : ℕ} {R : ℕ → Bool} {from via turn width : ℕ → ℕ} where
-  module _ {R′ : ℕ → Bool} {from′ via′ turn′ width′ : ℕ → ℕ} {D : ℕ → Bool} {i T j c w : ℕ}
-      (g : Growing n m cap thr out inn s R from via turn width D i T)
+  module _ {R′ : ℕ → Bool} {from′ via′ turn′ width′ : ℕ → ℕ} {i T j c w : ℕ}
+      (tree : Tree n m cap thr out inn s R from via turn width) (held : R i ≡ true) (before : turn i < T)
       (jd : Joined R R′ from via turn width from′ via′ turn′ width′ j i c T w)
       (new : R j ≡ false) (bj : j < n) (bc : c < m) (pos : 0 < w) (le : w ≤ carry n (cap c) (thr c) (out c) (inn c) i j) (nar : w ≤ width i) where
-    old : (x : ℕ) → R x ≡ true → x ≢ j
+    pub old : (x : ℕ) → R x ≡ true → x ≢ j
     old x r e = true≢false (sym r ∙ ap R e ∙ new)
 
     pub keeps : (x : ℕ) → R x ≡ true → R′ x ≡ true
@@ -77,17 +77,22 @@ module _ {n m : ℕ} {cap : ℕ → ℕ → ℕ} {thr : ℕ → ℕ} {out inn : 
     was : (x : ℕ) → R′ x ≡ true → x ≢ j → R x ≡ true
     was x r ne = sym (jd .set-off x ne) ∙ r
 
-    tree : Tree n m cap thr out inn s R from via turn width
-    tree = g .tree
+    -- What holds of the new taxon and of the old ones holds of all.
+    pub by : {P : ℕ → Type 0} → P j → ((x : ℕ) → R x ≡ true → P x) → (x : ℕ) → R′ x ≡ true → P x
+    by {P} a o x r = ⊎-elim (λ e. rw e a) (λ q. o x (was x r q)) (same? x j)
+
+    -- The column can give to the new taxon.
+    pub takes : 0 < down n (cap c) (thr c) (out c) (inn c) j
+    takes = omega (arith, carry-down n (cap c) (thr c) (out c) (inn c) i j)
 
     new-link : Link n m cap thr out inn s R′ from′ via′ turn′ width′ j
     new-link =
-        let i≢j = old i (g .held) in
+        let i≢j = old i held in
         record {
-          from-in = ap R′ (jd .from-at) ∙ keeps i (g .held);
-          from-n = rw (jd .from-at) (tree .low i (g .held));
+          from-in = ap R′ (jd .from-at) ∙ keeps i held;
+          from-n = rw (jd .from-at) (tree .low i held);
           via-m = rw (jd .via-at) bc;
-          earlier = rw (jd .from-at, jd .turn-at, jd .turn-off i i≢j) (g .turn-i);
+          earlier = rw (jd .from-at, jd .turn-at, jd .turn-off i i≢j) before;
           some = rw (jd .width-at) pos;
           carried = rw (jd .width-at, jd .via-at, jd .from-at) le;
           narrow = rw (jd .width-at, jd .from-at, jd .width-off i i≢j) nar;
@@ -108,59 +113,72 @@ module _ {n m : ℕ} {cap : ℕ → ℕ → ℕ} {thr : ℕ → ℕ} {out inn : 
           narrow = rw (jd .width-off x q, jd .from-off x q, jd .width-off (from x) f) (l .narrow);
         }
 
-    reach-up : (c i j : ℕ) → 0 < carry n (cap c) (thr c) (out c) (inn c) i j → 0 < up n (cap c) (thr c) (out c) (inn c) i
-    reach-up c i j h = omega (arith, carry-up n (cap c) (thr c) (out c) (inn c) i j)
+    -- If those reached through a column with room were reached from i, then so it stays.
+    module _ (one : (x : ℕ) → R x ≡ true → x ≢ s → via x ≡ c → 0 < room n (cap c) (thr c) (out c) (inn c) → from x ≡ i) where
+      shared : (x y : ℕ) → R′ x ≡ true → R′ y ≡ true → x ≢ s → y ≢ s → via′ x ≡ via′ y → 0 < room n (cap (via′ x)) (thr (via′ x)) (out (via′ x)) (inn (via′ x)) → from′ x ≡ from′ y
+      shared x y rx ry nx ny e p = go (same? x j) (same? y j)
+        where
+          go : (x ≡ j) ⊎ (x ≢ j) → (y ≡ j) ⊎ (y ≢ j) → from′ x ≡ from′ y
+          go (inl a) (inl b) = ap from′ (a ∙ sym b)
+          go (inl a) (inr b) =
+              let vc : via′ x ≡ c = ap via′ a ∙ jd .via-at in
+              ap from′ a ∙ jd .from-at ∙ sym (jd .from-off y b ∙ one y (was y ry b) ny (sym (jd .via-off y b) ∙ sym e ∙ vc) (rw vc at p))
+          go (inr a) (inl b) =
+              let vc : via′ x ≡ c = e ∙ ap via′ b ∙ jd .via-at in
+              jd .from-off x a ∙ one x (was x rx a) nx (sym (jd .via-off x a) ∙ vc) (rw vc at p) ∙ sym (ap from′ b ∙ jd .from-at)
+          go (inr a) (inr b) =
+              jd .from-off x a ∙ tree .shared x y (was x rx a) (was y ry b) nx ny (sym (jd .via-off x a) ∙ e ∙ jd .via-off y b) (rw (jd .via-off x a) at p) ∙ sym (jd .from-off y b)
 
-    -- Those reached through a column with room were reached from i: else j were reached already.
-    one-from : (x : ℕ) → R x ≡ true → x ≢ s → via x ≡ c → 0 < room n (cap c) (thr c) (out c) (inn c) → from x ≡ i
-    one-from x r ne e p = go (g .sources x r ne)
-      where
-        l : Link n m cap thr out inn s R from via turn width x
-        l = tree .link x r ne
-
-        sends : 0 < up n (cap c) (thr c) (out c) (inn c) (from x)
-        sends = rw e at (reach-up (via x) (from x) x (omega (arith, l .some, l .carried)))
-
-        takes : 0 < down n (cap c) (thr c) (out c) (inn c) j
-        takes = omega (arith, carry-down n (cap c) (thr c) (out c) (inn c) i j)
-
-        go : (D (from x) ≡ true) ⊎ (from x ≡ i) → from x ≡ i
-        go (inl d) = absurd (true≢false (sym (g .done (from x) d c j bc bj (carry-some n (cap c) (thr c) (out c) (inn c) (from x) j sends takes (omega (arith, most-room n (cap c) (thr c) (out c) (inn c) (from x) j)))) ∙ new))
-        go (inr q) = q
-
-    shared : (x y : ℕ) → R′ x ≡ true → R′ y ≡ true → x ≢ s → y ≢ s → via′ x ≡ via′ y → 0 < room n (cap (via′ x)) (thr (via′ x)) (out (via′ x)) (inn (via′ x)) → from′ x ≡ from′ y
-    shared x y rx ry nx ny e p = go (same? x j) (same? y j)
-      where
-        go : (x ≡ j) ⊎ (x ≢ j) → (y ≡ j) ⊎ (y ≢ j) → from′ x ≡ from′ y
-        go (inl a) (inl b) = ap from′ (a ∙ sym b)
-        go (inl a) (inr b) =
-            let vc : via′ x ≡ c = ap via′ a ∙ jd .via-at in
-            ap from′ a ∙ jd .from-at ∙ sym (jd .from-off y b ∙ one-from y (was y ry b) ny (sym (jd .via-off y b) ∙ sym e ∙ vc) (rw vc at p))
-        go (inr a) (inl b) =
-            let vc : via′ x ≡ c = e ∙ ap via′ b ∙ jd .via-at in
-            jd .from-off x a ∙ one-from x (was x rx a) nx (sym (jd .via-off x a) ∙ vc) (rw vc at p) ∙ sym (ap from′ b ∙ jd .from-at)
-        go (inr a) (inr b) =
-            jd .from-off x a ∙ tree .shared x y (was x rx a) (was y ry b) nx ny (sym (jd .via-off x a) ∙ e ∙ jd .via-off y b) (rw (jd .via-off x a) at p) ∙ sym (jd .from-off y b)
-
-    by : {P : ℕ → Type 0} → P j → ((x : ℕ) → R x ≡ true → P x) → (x : ℕ) → R′ x ≡ true → P x
-    by {P} a o x r = ⊎-elim (λ e. rw e a) (λ q. o x (was x r q)) (same? x j)
-
-    pub join : j ≢ s → Growing n m cap thr out inn s R′ from′ via′ turn′ width′ D i T
-    join ns = record {
-      tree = record {
+      pub join-tree : j ≢ s → Tree n m cap thr out inn s R′ from′ via′ turn′ width′
+      join-tree ns = record {
         root = keeps s (tree .root);
         first = jd .turn-off s (old s (tree .root)) ∙ tree .first;
         wide = rw (jd .width-off s (old s (tree .root))) (tree .wide);
         low = by {P = λ x. x < n} bj (tree .low);
         link = by {P = λ x. x ≢ s → Link n m cap thr out inn s R′ from′ via′ turn′ width′ x} (λ q. new-link) old-link;
         shared = shared;
-      };
-      held = keeps i (g .held);
-      done = λ y d e x be bx p. keeps x (g .done y d e x be bx p);
-      sources = by {P = λ x. x ≢ s → (D (from′ x) ≡ true) ⊎ (from′ x ≡ i)} (λ q. inr (jd .from-at)) (λ x r q. rw (jd .from-off x (old x r)) (g .sources x r q));
-      turns = by {P = λ x. turn′ x ≤ T} (omega (arith, jd .turn-at)) (λ x r. omega (arith, jd .turn-off x (old x r), g .turns x r));
-      turn-i = omega (arith, jd .turn-off i (old i (g .held)), g .turn-i);
+      }
+
+  -- One who came through column c with room sent something: the column gives to whoever can take, also from there.
+  pub gives : {c x : ℕ} → Link n m cap thr out inn s R from via turn width x → via x ≡ c → 0 < room n (cap c) (thr c) (out c) (inn c) → (j : ℕ)
+      → 0 < down n (cap c) (thr c) (out c) (inn c) j → 0 < carry n (cap c) (thr c) (out c) (inn c) (from x) j
+  gives {c} {x} l e p j takes = carry-some n (cap c) (thr c) (out c) (inn c) (from x) j sends takes (omega (arith, most-room n (cap c) (thr c) (out c) (inn c) (from x) j))
+    where
+      sends : 0 < up n (cap c) (thr c) (out c) (inn c) (from x)
+      sends =
+          let d = via x in
+          let h : 0 < up n (cap d) (thr d) (out d) (inn d) (from x) = omega (arith, l .some, l .carried, carry-up n (cap d) (thr d) (out d) (inn d) (from x) x) in
+          rw e at h
+
+  module _ {R′ : ℕ → Bool} {from′ via′ turn′ width′ : ℕ → ℕ} {D : ℕ → Bool} {i T j c w : ℕ}
+      (g : Growing n m cap thr out inn s R from via turn width D i T)
+      (jd : Joined R R′ from via turn width from′ via′ turn′ width′ j i c T w)
+      (new : R j ≡ false) (bj : j < n) (bc : c < m) (pos : 0 < w) (le : w ≤ carry n (cap c) (thr c) (out c) (inn c) i j) (nar : w ≤ width i) where
+    -- Those reached through a column with room were reached from i: else j were reached already.
+    one-from : (x : ℕ) → R x ≡ true → x ≢ s → via x ≡ c → 0 < room n (cap c) (thr c) (out c) (inn c) → from x ≡ i
+    one-from x r ne e p = ⊎-elim (λ d. absurd (true≢false (sym (reached x r ne e p d) ∙ new))) (λ q. q) (g .sources x r ne)
+      where
+        reached : (x : ℕ) → R x ≡ true → x ≢ s → via x ≡ c → 0 < room n (cap c) (thr c) (out c) (inn c) → D (from x) ≡ true → R j ≡ true
+        reached x r ne e p d = g .done (from x) d c j bc bj (gives (g .tree .link x r ne) e p j (takes (g .tree) (g .held) (g .turn-i) jd new bj bc pos le nar))
+
+    pub join : j ≢ s → Growing n m cap thr out inn s R′ from′ via′ turn′ width′ D i T
+    join ns = record {
+      tree = join-tree (g .tree) (g .held) (g .turn-i) jd new bj bc pos le nar one-from ns;
+      held = kept i (g .held);
+      done = λ y d e x be bx p. kept x (g .done y d e x be bx p);
+      sources = all {P = λ x. x ≢ s → (D (from′ x) ≡ true) ⊎ (from′ x ≡ i)} (λ q. inr (jd .from-at)) (λ x r q. rw (jd .from-off x (was-old x r)) (g .sources x r q));
+      turns = all {P = λ x. turn′ x ≤ T} (omega (arith, jd .turn-at)) (λ x r. omega (arith, jd .turn-off x (was-old x r), g .turns x r));
+      turn-i = omega (arith, jd .turn-off i (was-old i (g .held)), g .turn-i);
     }
+      where
+        kept : (x : ℕ) → R x ≡ true → R′ x ≡ true
+        kept = keeps (g .tree) (g .held) (g .turn-i) jd new bj bc pos le nar
+
+        was-old : (x : ℕ) → R x ≡ true → x ≢ j
+        was-old = old (g .tree) (g .held) (g .turn-i) jd new bj bc pos le nar
+
+        all : {P : ℕ → Type 0} → P j → ((x : ℕ) → R x ≡ true → P x) → (x : ℕ) → R′ x ≡ true → P x
+        all = by (g .tree) (g .held) (g .turn-i) jd new bj bc pos le nar
 
   -- A tree whose taxa have all been looked at is what hops reach.
   module _ (t : Tree n m cap thr out inn s R from via turn width)

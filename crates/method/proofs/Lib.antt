@@ -3,6 +3,7 @@ pub mod Hops
 pub mod Cuts
 pub mod Carry
 pub mod HopTree
+pub mod Sweep
 pub mod Path
 pub mod Spread
 pub mod Largest

@@ -61,7 +61,7 @@ pub fn score_from_c(matrix: &[u8], answer: &[u8]) -> u64
     flipcut_score(matrix, answer)
 }
 
-// The search of a group, which the split clears away.
+// The search of a group, which the split clears away; its lists are lent here.
 pub fn search(
     weights: &[u16],
     ones: &[u64],
@@ -76,5 +76,21 @@ pub fn search(
         FlowStands n m (colsOf (now (weights .entry)) (now (ones .entry)) (now (zeros .entry))) group (now (workspace .exit)) (r .cost) (r .side) (r .other)
         × Kept (n * m) (now (workspace .entry)) (now (workspace .exit)) ⌝ }
 {
-    search::divide(weights, ones, zeros, group, n, m, workspace)
+    let mut joined = [0u64; 256];
+    let mut limits = [0u32; 256];
+    let mut used = [0u32; 256];
+    let mut tree = [0u32; 256];
+    search::divide(
+        weights,
+        ones,
+        zeros,
+        group,
+        n,
+        m,
+        workspace,
+        &mut joined,
+        &mut limits,
+        &mut used,
+        &mut tree,
+    )
 }

@@ -16,7 +16,7 @@ use Rattle.taxa.proofs.Members.{pow-in}
 use Rattle.search.specs.Workspace.{outs, inns, cleared, Kept, CanHop}
 use Rattle.method.proofs.Carry.{Hopped, Moved}
 use Rattle.method.proofs.HopTree.{Tree, Link}
-use Rattle.search.specs.Network.{nth, caps, Net, Ready}
+use Rattle.search.specs.Network.{nth, caps, Unused, Net, Ready}
 use Rattle.search.specs.Reaching.{fromOf, viaOf, turnOf, widthOf, Found}
 use Rattle.search.specs.Flows.{CanCount, Counted, Flowing, Advanced}
 use Rattle.search.proofs.Workspace.{kept-none, kept-then, cleared-kept, out-0, inn-0}
@@ -148,12 +148,15 @@ module _ {W J L : List ℕ} {n m : ℕ} {ws₀ : List ℤ} {U₀ : List ℕ} {s 
 
 -- ---- no flow, in a cleared workspace
 
-module _ {W J L : List ℕ} {n m : ℕ} (z : Net W J L n m) (ws : List ℤ) (places : n * m ≤ length ws) where
-  pub no-ready : Ready W J L n m (cleared (n * m) ws) (replicate 256 0)
+pub none-used : {m : ℕ} → m ≤ 256 → Unused (replicate 256 0) m
+none-used b = record { long = refl; is = λ c l. getD-replicate 256 c 0 0 (omega arith) }
+
+module _ {W J L : List ℕ} {n m : ℕ} (z : Net W J L n m) (ws : List ℤ) (places : n * m ≤ length ws) {U : List ℕ} (un : Unused U m) where
+  pub no-ready : Ready W J L n m (cleared (n * m) ws) U
   no-ready = record {
     net = z;
     places = omega (arith, cleared-kept {k = n * m} ws refl places .long);
-    counts = refl;
+    counts = un .long;
     column = λ c b. record {
       out-fits = λ i bi. omega (arith, out-0 n m ws c i b bi);
       inn-fits = λ i bi. omega (arith, inn-0 n m ws c i b bi);
@@ -161,13 +164,13 @@ module _ {W J L : List ℕ} {n m : ℕ} (z : Net W J L n m) (ws : List ℤ) (pla
       balance = sum-≡ n (λ i bi. out-0 n m ws c i b bi ∙ sym (inn-0 n m ws c i b bi));
       limit = omega (arith, none c b);
     };
-    sums = λ c b. getD-replicate 256 c 0 0 (omega (arith, z .columns)) ∙ sym (none c b);
+    sums = λ c b. un .is c b ∙ sym (none c b);
   }
     where
       none : (c : ℕ) → c < m → sum n (outs (cleared (n * m) ws) n c) ≡ 0
       none c b = sum-none n (λ i bi. out-0 n m ws c i b bi)
 
-  pub no-flow : {s t : ℕ} → s < n → t < n → t ≢ s → Flowing W J L n m (cleared (n * m) ws) (replicate 256 0) s t 0
+  pub no-flow : {s t : ℕ} → s < n → t < n → t ≢ s → Flowing W J L n m (cleared (n * m) ws) U s t 0
   no-flow {s} {t} bs bt ne = record {
     ready = no-ready;
     flow = record { column = no-ready .column; through = λ i bi p q. all i bi; source = omega (arith, all s bs) };

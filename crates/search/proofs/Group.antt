@@ -27,7 +27,7 @@ use Rattle.search.specs.Search.{colsOf, Given, capsOf, throughOf, Divide
 use Rattle.search.specs.Trying.{Joins, Limits, costs, Parts, Tried}
 use Rattle.method.proofs.Carry.{same?}
 use Rattle.search.proofs.Reaching.{in-caps, off-none}
-use Rattle.search.proofs.Flows.{no-flow}
+use Rattle.search.proofs.Flows.{none-used, no-flow}
 use Rattle.search.proofs.Same.{same-cost, same-flow, same-reach}
 
 -- ---- what one largest flow says
@@ -108,7 +108,7 @@ module _ {W J L : List ℕ} {n m S s : ℕ} where
 module _ {W J L : List ℕ} {n m s : ℕ} (S : ℕ) (z : Net W J L n m) (ws : List ℤ) (places : n * m ≤ length ws) (bs : s < n) {A b : ℕ} (d : Side W J L n m (cleared (n * m) ws) s A)
     (bb : b < n) (h : has S b ≡ true) (off : has A b ≡ false) (lo : (i : ℕ) → i < b → has S i ≡ true → has A i ≡ true) where
   pub free-stands : Stands W J L n m (cleared (n * m) ws) s b 0 A
-  free-stands = record { flow = no-flow z ws places bs bb (λ e. clash (has A) s b (d .all s bs .1 start) off (sym e)) .flow; side = d; parts = off }
+  free-stands = record { flow = no-flow z ws places (none-used (z .columns)) bs bb (λ e. clash (has A) s b (d .all s bs .1 start) off (sym e)) .flow; side = d; parts = off }
 
   pub tried-free : Tried W J L n m S s n 0 b
   tried-free = record { best = stand-parts bs free-stands S h; below = bb; least = λ D i p q k l. omega arith; first = λ D i p q k l. some D i p q k l (decLt 0 (costs W J L n m D)) }
@@ -116,7 +116,7 @@ module _ {W J L : List ℕ} {n m s : ℕ} (S : ℕ) (z : Net W J L n m) (ws : Li
       some : (D : ℕ → Bool) (i : ℕ) → D s ≡ true → D i ≡ false → has S i ≡ true → i < b → Dec (0 < costs W J L n m D) → 0 < costs W J L n m D
       some D i p q k l (yes c) = c
       some D i p q k l (no c) =
-          let f = no-flow z ws places bs (omega arith) (λ e. clash D s i p q (sym e)) .flow in
+          let f = no-flow z ws places (none-used (z .columns)) bs (omega arith) (λ e. clash D s i p q (sym e)) .flow in
           let r = d .all i (omega arith) .0 (lo i l k) in
           absurd (true≢false (sym (cuts.least n m (caps W J) (nth L) (outs (cleared (n * m) ws) n) (inns (cleared (n * m) ws) n) f bs D p q (omega arith) r) ∙ q))
 

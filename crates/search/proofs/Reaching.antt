@@ -8,18 +8,19 @@ use native.Mathlib.Omega.{arith}
 use lib.IntN.{ℤ}
 use lib.ListN.{length, set, length-set}
 use lib.Seq.{getD-set-same, getD-set-other}
-use Rattle.taxa.specs.Sets.{has, _∩_, _∪_, _∖_, count}
+use Rattle.taxa.specs.Sets.{has, all, _⊆_, _∩_, _∪_, _∖_, count}
 use Rattle.taxa.proofs.Digits.{has-none}
-use Rattle.taxa.proofs.Counts.{count-insert}
-use Rattle.taxa.proofs.Members.{in-insert, in-remove, in-pow, pow-in, in-pos, in∖, out, same-bool, disjoint-∩, ∩-disjoint}
+use Rattle.taxa.proofs.Counts.{count-insert, count-pow}
+use Rattle.taxa.proofs.Members.{in-insert, in-remove, in-pow, pow-in, in∩, in∖, out, same-bool, disjoint-∩, ∩-disjoint, ⊆-refl, ⊆-≤, in-all}
 use Rattle.method.proofs.Carry.{up, down, room, most, carry}
 use Rattle.search.specs.Workspace.{outs, inns, Entry}
-use Rattle.method.proofs.HopTree.{Tree, Joined}
+use Rattle.method.proofs.HopTree.{Joined}
 use Rattle.search.specs.Network.{nth, caps, Ready}
-use Rattle.search.specs.Reaching.{fromOf, viaOf, turnOf, widthOf, carried, IsGate, Grow, Offered, stays, joins, Passed, Missed, Spread, Waiting, Planted, Found}
+use Rattle.search.specs.Reaching.{fromOf, viaOf, turnOf, widthOf, carried, IsGate, Rooted, Grow, Leads, Offered, stays, joins, Passed, Crossed, Missed, Swept, Planted, Found}
 use Rattle.search.proofs.Workspace.{slot-lt}
 use Rattle.method.proofs.Carry.{same?, carry-up, carry-open}
-use Rattle.method.proofs.HopTree.{join, keeps, reached}
+use Rattle.method.proofs.HopTree.{reached}
+use Rattle.method.proofs.Sweep.{leads-open, leads-full, send-start, send-end, send-keeps, send-join}
 
 -- ---- what a column joins
 
@@ -59,6 +60,10 @@ module _ {W J L : List ℕ} {n m : ℕ} {ws : List ℤ} {U : List ℕ} (r : Read
     pub gate-up : u ≡ up n (caps W J c) (nth L c) (outs ws n c) (inns ws n c) i
     unfolding up
     gate-up = rw (caps-in W J c i hi) (g .is-sends)
+
+    pub gate-free : max b v ≡ max (inns ws n c i) (room n (caps W J c) (nth L c) (outs ws n c) (inns ws n c))
+    unfolding room
+    gate-free = rw (g .is-back, g .is-room, r .sums c bc)
 
     -- The formula of the code is what the hop carries.
     pub gate-carry : (j : ℕ) → has (nth J c) j ≡ true → min (min u (w + outs ws n c j - inns ws n c j)) (max (max b (outs ws n c j)) v) ≡ carried W J L n ws c i j
@@ -151,43 +156,94 @@ missed {goal} {a} e = record { none = λ x h. out (λ p. ∩-disjoint {x = goal}
 pub hit : {goal a : ℕ} → 0 < goal ∩ a → Missed goal a → ⊥
 hit {goal} {a} p h = omega (arith, disjoint-∩ {x = goal} {y = a} (record { off = λ {i} x y. true≢false (sym (y .is) ∙ h .none i (x .is)) }))
 
+-- ---- who sends
+
+module _ (W J L : List ℕ) (n : ℕ) (ws : List ℤ) (c x : ℕ) where
+  -- What taxon i can send through the column, and whether it turns flow back or finds room.
+  abbrev pub sendsOf : ℕ → ℕ
+  sendsOf = up n (caps W J c) (nth L c) (outs ws n c) (inns ws n c)
+
+  abbrev pub freeOf : ℕ → ℕ
+  freeOf i = max (inns ws n c i) (room n (caps W J c) (nth L c) (outs ws n c) (inns ws n c))
+
+  -- Of the taxa of x without those of l none leads everywhere, and `found` is one that sends, if one does.
+  pub record Seeks (l found : ℕ) : Type 0 where
+    pub inside : l ⊆ x
+    pub held : found ≢ 64 → (has x found ≡ true) × (0 < sendsOf found)
+    pub passed : (y : ℕ) → has x y ≡ true → has l y ≡ false → 0 < sendsOf y → (found ≢ 64) × (freeOf y ≡ 0)
+
+module _ {W J L : List ℕ} {n : ℕ} {ws : List ℤ} {c x : ℕ} where
+  pub seek-start : Seeks W J L n ws c x x 64
+  seek-start = record { inside = ⊆-refl x; held = λ ne. absurd (ne refl); passed = λ y h k. absurd (true≢false (sym h ∙ k)) }
+
+  pub seek-found : {i : ℕ} → has x i ≡ true → 0 < sendsOf W J L n ws c x i → 0 < freeOf W J L n ws c x i → i < 64 → Leads W J L n ws c x i
+  seek-found {i} h u f b = record { held = λ ne. h; sends = λ y j k p. (λ e. omega arith, leads-open n (caps W J c) (nth L c) (outs ws n c) (inns ws n c) i y j u p f) }
+
+  pub seek-end : {found : ℕ} → Seeks W J L n ws c x 0 found → Leads W J L n ws c x found
+  seek-end {found} k = record { held = λ ne. k .held ne .0; sends = sends }
+    where
+      sends : (y j : ℕ) → has x y ≡ true → 0 < carried W J L n ws c y j → (found ≢ 64) × (0 < carried W J L n ws c found j)
+      sends y j h p =
+          let q = k .passed y h (has-none y) (omega (arith, carry-up n (caps W J c) (nth L c) (outs ws n c) (inns ws n c) y j)) in
+          (q .0, leads-full n (caps W J c) (nth L c) (outs ws n c) (inns ws n c) found y j (k .held (q .0) .1) p (q .1))
+
+  module _ {l found : ℕ} (k : Seeks W J L n ws c x l found) (i : ℕ) {l′ : ℕ} (h : has l i ≡ true) (q : l′ ≡ l ∖ 2 ^ i) where
+    less : l′ ⊆ x
+    less = record { sub = λ p. k .inside .sub (in-remove l i .0 (rw q at p) .0) }
+
+    gone : (y : ℕ) → has l′ y ≡ false → (has l y ≡ false) ⊎ (y ≡ i)
+    gone y e = gone-one l i y (ap (λ (z : ℕ). has z y) (sym q) ∙ e)
+
+    -- Taxon i cannot send.
+    pub seek-skip : sendsOf W J L n ws c x i ≡ 0 → Seeks W J L n ws c x l′ found
+    seek-skip z = record { inside = less; held = k .held; passed = λ y e f u. ⊎-elim (λ g. k .passed y e g u) (λ g. absurd (omega (arith, ap (sendsOf W J L n ws c x) g))) (gone y f) }
+
+    -- It can, but turns nothing back and finds no room.
+    pub seek-take : 0 < sendsOf W J L n ws c x i → freeOf W J L n ws c x i ≡ 0 → i < 64 → Seeks W J L n ws c x l′ i
+    seek-take v z b = record {
+      inside = less;
+      held = λ ne. (k .inside .sub (record { is = h }) .is, v);
+      passed = λ y e f u. (λ g. omega arith, ⊎-elim (λ g. k .passed y e g u .1) (λ g. ap (freeOf W J L n ws c x) g ∙ z) (gone y f));
+    }
+
 -- ---- the hops of i through one column
 
-module _ {W J L : List ℕ} {n m : ℕ} {ws : List ℤ} {s a : ℕ} {Y : List ℕ} {D i : ℕ} (g : Grow W J L n m ws s a Y D i) where
-  pub low-i : i < n
-  low-i = g .growing .tree .low i (g .growing .held)
-
+module _ {W J L : List ℕ} {n m : ℕ} {ws : List ℤ} {s a : ℕ} {Y : List ℕ} {i c t : ℕ} (g : Grow W J L n m ws s a Y i c t) where
   wide : 0 < widthOf Y i
-  wide = ⊎-elim (λ e. rw e (g .growing .tree .wide)) (λ ne. g .growing .tree .link i (g .growing .held) ne .some) (same? i s)
+  wide = ⊎-elim (λ e. rw e (g .sending .tree .wide)) (λ ne. g .sending .tree .link i (g .sending .held) ne .some) (same? i s)
 
-  -- Nothing was passed yet: all that is left, or all that the column joins, lies ahead.
-  pub pass-start : {U : List ℕ} (c : ℕ) → Ready W J L n m ws U → c < m → Passed W J L n m ws s a a Y D i c (nth J c ∖ a)
-  pass-start c r bc = record { tree = g; keeps = λ x h. h; into = λ x b h p. off-none (nth J c) a x h (hop-joins r bc low-i b p .1) }
-
-  -- Nothing can be sent.
-  pub pass-shut : (c : ℕ) → up n (caps W J c) (nth L c) (outs ws n c) (inns ws n c) i ≡ 0 → Passed W J L n m ws s a a Y D i c 0
-  pass-shut c e = record { tree = g; keeps = λ x h. h; into = λ x b l p. absurd (omega (arith, carry-up n (caps W J c) (nth L c) (outs ws n c) (inns ws n c) i x)) }
+-- Nothing was passed yet: all that the column joins and that is not met lies ahead.
+pub pass-start : {W J L : List ℕ} {n m : ℕ} {ws : List ℤ} {s a : ℕ} {Y U : List ℕ} {i : ℕ} (c : ℕ) → Ready W J L n m ws U → Rooted W J L n m ws s a Y → c < m → has a i ≡ true
+    → Passed W J L n m ws s a a Y i c (nth J c ∖ a)
+pass-start {J = J} {a = a} {i = i} c r g bc h = record {
+  tree = record { sending = send-start (g .sweeping) h; long = g .long };
+  keeps = λ x k. k;
+  into = λ x b k p. off-none (nth J c) a x k (hop-joins r bc (g .sweeping .tree .low i h) b p .1);
+}
 
 -- An offer to j leaves the others as they are.
 pub others : {a a′ j i c t k : ℕ} {Y Y′ : List ℕ} → Offered a Y a′ Y′ j i c t k → (x : ℕ) → x ≢ j → has a′ x ≡ has a x
 others (stays z q f) x ne = ap (λ (y : ℕ). has y x) q
-others (joins z jd ls) x ne = jd .set-off x ne
+others (joins z e jd ls) x ne = jd .set-off x ne
 
-module _ {W J L : List ℕ} {n m : ℕ} {ws : List ℤ} {s a : ℕ} {D i : ℕ} {a′ a″ : ℕ} {Y′ Y″ : List ℕ} {c j k l : ℕ}
-    (p : Passed W J L n m ws s a a′ Y′ D i c l) (bc : c < m) (bj : j < n) (new : has a′ j ≡ false) (e : k ≡ min (carried W J L n ws c i j) (widthOf Y′ i)) where
-  grown : Offered a′ Y′ a″ Y″ j i c (count 64 D + 1) k → (Grow W J L n m ws s a″ Y″ D i) × ((x : ℕ) → has a′ x ≡ true → has a″ x ≡ true) × (0 < carried W J L n ws c i j → has a″ j ≡ true)
+more : (a j : ℕ) → has a j ≡ false → j < 64 → count 64 (a ∪ 2 ^ j) ≡ count 64 a + 1
+more a j new b = count-insert 64 b (λ p. true≢false (sym (p .is) ∙ new))
+
+module _ {W J L : List ℕ} {n m : ℕ} {ws : List ℤ} {s a i a′ a″ : ℕ} {Y′ Y″ : List ℕ} {c j k l : ℕ}
+    (p : Passed W J L n m ws s a a′ Y′ i c l) (bc : c < m) (bj : j < n) (b64 : j < 64) (new : has a′ j ≡ false) (e : k ≡ min (carried W J L n ws c i j) (widthOf Y′ i)) where
+  grown : Offered a′ Y′ a″ Y″ j i c (count 64 a) k → (Grow W J L n m ws s a″ Y″ i c (count 64 a)) × ((x : ℕ) → has a′ x ≡ true → has a″ x ≡ true) × (0 < carried W J L n ws c i j → has a″ j ≡ true)
   grown (stays z q f) = (rw (q, f) (p .tree), λ x y. ap (λ (z : ℕ). has z x) q ∙ y, λ p0. absurd (omega (arith, wide (p .tree))))
-  grown (joins z jd ls) = (
-    record { growing = join (p .tree .growing) jd new bj bc z (omega arith) (omega arith) not-s; long = ls },
-    keeps (p .tree .growing) jd new bj bc z (omega arith) (omega arith),
+  grown (joins z q jd ls) = (
+    record { sending = rw (q, more a′ j new b64) (send-join (p .tree .sending) (rw q at jd) new bj bc z (omega arith) (omega arith) not-s); long = ls },
+    send-keeps (p .tree .sending) jd new bj bc z (omega arith) (omega arith),
     λ p0. jd .set-at,
   )
     where
       not-s : j ≢ s
-      not-s q = true≢false (sym (p .tree .growing .tree .root) ∙ ap (has a′) (sym q) ∙ new)
+      not-s u = true≢false (sym (p .tree .sending .tree .root) ∙ ap (has a′) (sym u) ∙ new)
 
   -- One taxon further.
-  pub pass-one : Offered a′ Y′ a″ Y″ j i c (count 64 D + 1) k → {l′ : ℕ} → l′ ≡ l ∖ 2 ^ j → Passed W J L n m ws s a a″ Y″ D i c l′
+  pub pass-one : Offered a′ Y′ a″ Y″ j i c (count 64 a) k → {l′ : ℕ} → l′ ≡ l ∖ 2 ^ j → Passed W J L n m ws s a a″ Y″ i c l′
   pass-one o {l′} q =
       let g = grown o in
       record {
@@ -196,92 +252,95 @@ module _ {W J L : List ℕ} {n m : ℕ} {ws : List ℤ} {s a : ℕ} {D i : ℕ} 
         into = λ x b h d. ⊎-elim (λ f. g .1 x (p .into x b f d)) (λ f. rw f (g .2 (rw f at d))) (gone-one l j x (ap (λ (y : ℕ). has y x) (sym q) ∙ h));
       }
 
--- ---- all columns of one taxon
+-- ---- one column
 
--- The tree after the hops of i through the columns below l.
-pub record Over (W J L : List ℕ) (n m : ℕ) (ws : List ℤ) (s a : ℕ) (Y : List ℕ) (D i l : ℕ) : Type 0 where
-  pub tree : Grow W J L n m ws s a Y D i
-  pub into : (c x : ℕ) → c < l → x < n → 0 < carried W J L n ws c i x → has a x ≡ true
+module _ {W J L : List ℕ} {n m : ℕ} {ws : List ℤ} {s : ℕ} {U : List ℕ} (r : Ready W J L n m ws U) {a c : ℕ} (bc : c < m) where
+  module _ {Y : List ℕ} (g : Rooted W J L n m ws s a Y) where
+    -- All that it joins is met ..
+    pub cross-full : nth J c ⊆ a → Crossed W J L n m ws s a a Y c
+    cross-full h = record {
+      tree = g;
+      keeps = λ x k. k;
+      into = λ y x k b p. h .sub (record { is = hop-joins r bc (g .sweeping .tree .low y k) b p .1 }) .is;
+    }
 
-module _ {W J L : List ℕ} {n m : ℕ} {ws : List ℤ} {s : ℕ} {D i : ℕ} where
-  pub over-none : {a : ℕ} {Y : List ℕ} → Grow W J L n m ws s a Y D i → Over W J L n m ws s a Y D i 0
-  over-none g = record { tree = g; into = λ c x l b p. absurd (omega arith) }
+    -- The hop joins the sender's set.
+    here : (y x : ℕ) → has a y ≡ true → x < n → 0 < carried W J L n ws c y x → has (nth J c ∩ a) y ≡ true
+    here y x k b p = in∩ (nth J c) a .1 (record { is = hop-joins r bc (g .sweeping .tree .low y k) b p .0 }, record { is = k }) .is
 
-  pub over-one : {a a′ l : ℕ} {Y Y′ : List ℕ} → Over W J L n m ws s a Y D i l → Passed W J L n m ws s a a′ Y′ D i l 0 → Over W J L n m ws s a′ Y′ D i (l + 1)
-  over-one {l = l} u p = record { tree = p .tree; into = λ c x b bx q. ⊎-elim (λ e. p .into x bx (has-none x) (rw e at q)) (λ ne. p .keeps x (u .into c x (omega arith) bx q)) (same? c l) }
+    -- .. or nobody sends ..
+    pub cross-none : Leads W J L n ws c (nth J c ∩ a) 64 → Crossed W J L n m ws s a a Y c
+    cross-none l = record { tree = g; keeps = λ x k. k; into = λ y x k b p. absurd (l .sends y x (here y x k b p) p .0 refl) }
 
-  pub over-skip : {a l : ℕ} {Y : List ℕ} → Over W J L n m ws s a Y D i l → ((x : ℕ) → x < n → 0 < carried W J L n ws l i x → has a x ≡ true) → Over W J L n m ws s a Y D i (l + 1)
-  over-skip {l = l} u h = record { tree = u .tree; into = λ c x b bx q. ⊎-elim (λ e. h x bx (rw e at q)) (λ ne. u .into c x (omega arith) bx q) (same? c l) }
+    -- .. or the sender's hops lead wherever the others lead.
+    pub cross : {a′ i : ℕ} {Y′ : List ℕ} → Leads W J L n ws c (nth J c ∩ a) i → Passed W J L n m ws s a a′ Y′ i c 0 → Crossed W J L n m ws s a a′ Y′ c
+    cross l p = record {
+      tree = record { sweeping = send-end (p .tree .sending) (λ j b. p .into j b (has-none j)); long = p .tree .long };
+      keeps = p .keeps;
+      into = λ y x k b q. p .into x b (has-none x) (l .sends y x (here y x k b q) q .1);
+    }
 
-  pub spread : {a : ℕ} {Y : List ℕ} (goal : ℕ) → Over W J L n m ws s a Y D i m → Spread W J L n m ws s a Y D i goal
-  spread goal u = record { tree = u .tree; into = λ h. u .into }
+-- ---- the columns one after the other
 
--- ---- the taxa one after the other
+-- The tree, of a before, after the hops of the taxa of a through the columns from `first` to below l.
+pub record Over (W J L : List ℕ) (n m : ℕ) (ws : List ℤ) (s a a′ : ℕ) (Y : List ℕ) (first l : ℕ) : Type 0 where
+  pub tree : Rooted W J L n m ws s a′ Y
+  pub keeps : (x : ℕ) → has a x ≡ true → has a′ x ≡ true
+  pub into : (c y x : ℕ) → first ≤ c → c < l → has a y ≡ true → x < n → 0 < carried W J L n ws c y x → has a′ x ≡ true
 
--- The tree, and the taxa of D have been looked at.
-pub record Looked (W J L : List ℕ) (n m : ℕ) (ws : List ℤ) (s a : ℕ) (Y : List ℕ) (D : ℕ) : Type 0 where
-  pub done : (y : ℕ) → has D y ≡ true → (c x : ℕ) → c < m → x < n → 0 < carried W J L n ws c y x → has a x ≡ true
-  pub sources : (x : ℕ) → has a x ≡ true → x ≢ s → has D (fromOf Y x) ≡ true
-  pub turns : (x : ℕ) → has a x ≡ true → turnOf Y x ≤ count 64 D
+module _ {W J L : List ℕ} {n m : ℕ} {ws : List ℤ} {s a first : ℕ} where
+  pub over-none : {Y : List ℕ} → Rooted W J L n m ws s a Y → Over W J L n m ws s a a Y first first
+  over-none g = record { tree = g; keeps = λ x h. h; into = λ c y x f l. absurd (omega arith) }
 
-pub record Rooted (W J L : List ℕ) (n m : ℕ) (ws : List ℤ) (s a : ℕ) (Y : List ℕ) (D goal : ℕ) : Type 0 where
-  pub long : length Y ≡ 256
-  pub tree : Tree n m (caps W J) (nth L) (outs ws n) (inns ws n) s (has a) (fromOf Y) (viaOf Y) (turnOf Y) (widthOf Y)
-  pub looked : Missed goal a → Looked W J L n m ws s a Y D
+  pub over-one : {a′ a″ l : ℕ} {Y Y′ : List ℕ} → Over W J L n m ws s a a′ Y first l → Crossed W J L n m ws s a′ a″ Y′ l → Over W J L n m ws s a a″ Y′ first (l + 1)
+  over-one {l = l} u p = record {
+    tree = p .tree;
+    keeps = λ x h. p .keeps x (u .keeps x h);
+    into = λ c y x f b h bx q. ⊎-elim (λ e. p .into y x (u .keeps y h) bx (rw e at q)) (λ ne. p .keeps x (u .into c y x f (omega arith) h bx q)) (same? c l);
+  }
 
-pub more : (D i : ℕ) → has D i ≡ false → i < 64 → count 64 (D ∪ 2 ^ i) ≡ count 64 D + 1
-more D i new b = count-insert 64 b (λ p. true≢false (sym (p .is) ∙ new))
+-- ---- sweeps
 
 module _ {W J L : List ℕ} {n m : ℕ} {ws : List ℤ} {s : ℕ} where
   -- The tree of s alone.
-  pub root-alone : {Y : List ℕ} (goal : ℕ) → s < n → Planted Y s → Rooted W J L n m ws s (2 ^ s) Y 0 goal
-  root-alone {Y} goal bn p = record {
+  pub root-alone : {Y : List ℕ} → s < n → s < 64 → Planted Y s → Rooted W J L n m ws s (2 ^ s) Y
+  root-alone {Y} bn b p = record {
     long = p .long;
-    tree = record {
-      root = in-pow s .is;
-      first = p .first;
-      wide = p .wide;
-      low = λ j h. omega (arith, only j h);
-      link = λ j h ne. absurd (ne (only j h));
-      shared = λ x y h k ne. absurd (ne (only x h));
-    };
-    looked = λ h. record {
-      done = λ y h. absurd (true≢false (sym h ∙ has-none y));
-      sources = λ x h ne. absurd (ne (only x h));
-      turns = λ x h. omega (arith, ap (turnOf Y) (only x h), p .first);
+    sweeping = record {
+      tree = record {
+        root = in-pow s .is;
+        first = p .first;
+        wide = p .wide;
+        low = λ j h. omega (arith, only j h);
+        link = λ j h ne. absurd (ne (only j h));
+        shared = λ x y h k ne. absurd (ne (only x h));
+      };
+      turns = λ x h. omega (arith, ap (turnOf Y) (only x h), p .first, count-pow 64 b);
+      spent = λ x h ne. absurd (ne (only x h));
     };
   }
     where
       only : (x : ℕ) → has (2 ^ s) x ≡ true → x ≡ s
       only x h = pow-in s (record { is = h })
 
-  module _ {a D goal : ℕ} {Y : List ℕ} (r : Rooted W J L n m ws s a Y D goal) where
-    pub look-at : {i left : ℕ} → Waiting a D goal left → has left i ≡ true → Grow W J L n m ws s a Y D i
-    look-at {i} {left} w h =
-        let k = r .looked (w .missed (in-pos {i = i} {x = left} (record { is = h }))) in
-        let p = w .waits i h in
-        record {
-          growing = record {
-            tree = r .tree;
-            held = p .0;
-            done = k .done;
-            sources = λ x q ne. inl (k .sources x q ne);
-            turns = λ x q. omega (arith, k .turns x q);
-            turn-i = omega (arith, k .turns i (p .0));
-          };
-          long = r .long;
-        }
+  -- Its taxa are below n.
+  pub rooted-low : {a : ℕ} {Y : List ℕ} → Rooted W J L n m ws s a Y → a ≤ all n
+  rooted-low {a} g = ⊆-≤ {x = a} {y = all n} (record { sub = λ {i} h. in-all n (g .sweeping .tree .low i (h .is)) })
 
-    pub look-end : {U : List ℕ} → Ready W J L n m ws U → Waiting a D goal 0 → Found W J L n m ws s a Y goal
-    look-end q w = record { tree = r .tree; all = λ h. reached (r .tree) (q .column) (λ y p. r .looked h .done y (w .ends refl h y p)) }
-
-  pub look-next : {a D i goal : ℕ} {Y : List ℕ} → has D i ≡ false → i < 64 → Spread W J L n m ws s a Y D i goal → Rooted W J L n m ws s a Y (D ∪ 2 ^ i) goal
-  look-next {a} {D} {i} {goal} {Y} new b u = record {
-    long = u .tree .long;
-    tree = u .tree .growing .tree;
-    looked = λ h. record {
-      done = λ y p c x bc bx q. ⊎-elim (λ d. u .tree .growing .done y (d .is) c x bc bx q) (λ e. u .into h c x bc bx (rw e at q)) (in-insert D i .0 (record { is = p }));
-      sources = λ x p ne. in-insert D i .1 (⊎-elim (λ d. inl (record { is = d })) inr (u .tree .growing .sources x p ne)) .is;
-      turns = λ x p. omega (arith, u .tree .growing .turns x p, more D i new b);
-    };
+  -- A whole sweep of nobody.
+  pub swept-none : {a goal : ℕ} {Y : List ℕ} → Rooted W J L n m ws s a Y → Swept W J L n m ws s 0 a Y goal 0
+  swept-none g = record {
+    tree = g;
+    keeps = λ x h. absurd (true≢false (sym h ∙ has-none x));
+    into = λ h c y x f b k. absurd (true≢false (sym k ∙ has-none y));
   }
+
+  -- A whole sweep that met nobody new.
+  pub swept-all : {a a′ goal : ℕ} {Y U : List ℕ} → Ready W J L n m ws U → Swept W J L n m ws s a a′ Y goal 0 → a′ ≤ a → Found W J L n m ws s a Y goal
+  swept-all {a} {a′} {goal} {Y} r v le = rw e at (found v)
+    where
+      e : a′ ≡ a
+      e = omega (arith, ⊆-≤ {x = a} {y = a′} (record { sub = λ {i} h. record { is = v .keeps i (h .is) } }))
+
+      found : Swept W J L n m ws s a a′ Y goal 0 → Found W J L n m ws s a′ Y goal
+      found u = record { tree = u .tree .sweeping .tree; all = λ h. reached (u .tree .sweeping .tree) (r .column) (λ y k c x bc bx. u .into h c y x (omega arith) bc (ap (λ (z : ℕ). has z y) (sym e) ∙ k) bx) }

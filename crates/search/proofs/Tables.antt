@@ -1,10 +1,10 @@
 -- A table of 256 places filled from the front, one store a turn.
 use Prim.Native.Nat.{ℕ, _+_, _<_}
-use mathlib.Core.Path.{_≡_, refl, _∙_}
+use mathlib.Core.Path.{_≡_, _∙_}
 use mathlib.Core.List.{List}
 use mathlib.Core.Logic.{⊎-elim}
 use native.Mathlib.Omega.{arith}
-use lib.ListN.{length, set, replicate, length-set}
+use lib.ListN.{length, set, length-set}
 use lib.Seq.{getD-set-same, getD-set-other}
 use Rattle.search.specs.Network.{nth}
 use Rattle.method.proofs.Carry.{same?}
@@ -14,8 +14,8 @@ pub record Table (f : ℕ → ℕ) (l : List ℕ) (c : ℕ) : Type 0 where
   pub long : length l ≡ 256
   pub is : (e : ℕ) → e < c → nth l e ≡ f e
 
-pub table-start : (f : ℕ → ℕ) → Table f (replicate 256 0) 0
-table-start f = record { long = refl; is = λ e b. absurd (omega arith) }
+pub table-start : (f : ℕ → ℕ) {l : List ℕ} → length l ≡ 256 → Table f l 0
+table-start f h = record { long = h; is = λ e b. absurd (omega arith) }
 
 pub table-next : {f : ℕ → ℕ} {l : List ℕ} {c v : ℕ} → Table f l c → c < 256 → v ≡ f c → Table f (set l c v) (c + 1)
 table-next {f} {l} {c} {v} t b q = record {

@@ -18,6 +18,22 @@ nth l x = getD l x 0
 unfoldable pub caps : List ℕ → List ℕ → ℕ → ℕ → ℕ
 caps W J c i = cond (has (nth J c) i) (nth W c) 0
 
+-- The lent lists that the search counts in and grows its tree in: their room.
+pub record Spare (U Y : List ℕ) : Type 0 where
+  pub counts : length U ≡ 256
+  pub tree : length Y ≡ 256
+
+-- All lent lists of the search.
+pub record Lent (J L U Y : List ℕ) : Type 0 where
+  pub joins : length J ≡ 256
+  pub limits : length L ≡ 256
+  pub spare : Spare U Y
+
+-- Nothing is counted in the columns below m.
+pub record Unused (U : List ℕ) (m : ℕ) : Type 0 where
+  pub long : length U ≡ 256
+  pub is : (c : ℕ) → c < m → nth U c ≡ 0
+
 -- What the search asks of these lists.
 pub record Net (W J L : List ℕ) (n m : ℕ) : Type 0 where
   pub taxa : n ≤ 64

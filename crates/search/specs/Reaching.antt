@@ -2,15 +2,16 @@
 use mathlib.Core.Path.{_≡_}
 use mathlib.Core.Bool.{true, false}
 use mathlib.Core.List.{List}
-use mathlib.Core.Logic.{_↔_}
-use Prim.Native.Nat.{ℕ, _+_, _-_, _*_, _<_}
+use mathlib.Core.Logic.{_≢_, _↔_}
+use Prim.Native.Nat.{ℕ, _+_, _-_, _*_, _^_, _≤_, _<_}
 use lib.IntN.{ℤ}
 use lib.ListN.{length}
-use Rattle.taxa.specs.Sets.{has, count}
+use Rattle.taxa.specs.Sets.{has, _∪_, count}
 use Rattle.method.specs.Flow.{Reach}
 use Rattle.search.specs.Workspace.{outs, inns}
 use Rattle.method.proofs.Carry.{carry}
-use Rattle.method.proofs.HopTree.{Tree, Growing, Joined}
+use Rattle.method.proofs.HopTree.{Tree, Joined}
+use Rattle.method.proofs.Sweep.{Sweeping, Sending}
 use Rattle.search.specs.Network.{nth, caps}
 
 -- From which taxon x was reached.
@@ -40,37 +41,48 @@ pub record IsGate (W L U : List ℕ) (n : ℕ) (ws : List ℤ) (c i weight sends
   pub is-back : back ≡ inns ws n c i
   pub is-room : room ≡ nth L c - nth U c
 
--- The tree while taxon i is being looked at, after those of D.
-pub record Grow (W J L : List ℕ) (n m : ℕ) (ws : List ℤ) (s a : ℕ) (Y : List ℕ) (D i : ℕ) : Type 0 where
-  pub growing : Growing n m (caps W J) (nth L) (outs ws n) (inns ws n) s (has a) (fromOf Y) (viaOf Y) (turnOf Y) (widthOf Y) (has D) i (count 64 D + 1)
+-- The tree of the taxa of a.
+pub record Rooted (W J L : List ℕ) (n m : ℕ) (ws : List ℤ) (s a : ℕ) (Y : List ℕ) : Type 0 where
+  pub sweeping : Sweeping n m (caps W J) (nth L) (outs ws n) (inns ws n) s (has a) (fromOf Y) (viaOf Y) (turnOf Y) (widthOf Y) (count 64 a)
   pub long : length Y ≡ 256
+
+-- The same while taxon i sends through column c, and those that join get the turn t.
+pub record Grow (W J L : List ℕ) (n m : ℕ) (ws : List ℤ) (s a : ℕ) (Y : List ℕ) (i c t : ℕ) : Type 0 where
+  pub sending : Sending n m (caps W J) (nth L) (outs ws n) (inns ws n) s (has a) (fromOf Y) (viaOf Y) (turnOf Y) (widthOf Y) i c t (count 64 a)
+  pub long : length Y ≡ 256
+
+-- i is a taxon of x, and a hop from it through column c leads wherever one from a taxon of x leads; or i is 64, and none of them leads anywhere.
+pub record Leads (W J L : List ℕ) (n : ℕ) (ws : List ℤ) (c x i : ℕ) : Type 0 where
+  pub held : i ≢ 64 → has x i ≡ true
+  pub sends : (y j : ℕ) → has x y ≡ true → 0 < carried W J L n ws c y j → (i ≢ 64) × (0 < carried W J L n ws c i j)
 
 -- Taxon j is offered a hop that carries k: it joins, unless that is nothing.
 pub data Offered (a : ℕ) (Y : List ℕ) (a′ : ℕ) (Y′ : List ℕ) (j i c t k : ℕ) : Type 0 where
   stays : k ≡ 0 → a′ ≡ a → Y′ ≡ Y → Offered a Y a′ Y′ j i c t k
-  joins : 0 < k → Joined (has a) (has a′) (fromOf Y) (viaOf Y) (turnOf Y) (widthOf Y) (fromOf Y′) (viaOf Y′) (turnOf Y′) (widthOf Y′) j i c t k → length Y′ ≡ 256
+  joins : 0 < k → a′ ≡ a ∪ 2 ^ j → Joined (has a) (has a′) (fromOf Y) (viaOf Y) (turnOf Y) (widthOf Y) (fromOf Y′) (viaOf Y′) (turnOf Y′) (widthOf Y′) j i c t k → length Y′ ≡ 256
       → Offered a Y a′ Y′ j i c t k
 
 -- The tree, of a before, after the hops of i through column c to all taxa but those of l.
-pub record Passed (W J L : List ℕ) (n m : ℕ) (ws : List ℤ) (s a a′ : ℕ) (Y : List ℕ) (D i c l : ℕ) : Type 0 where
-  pub tree : Grow W J L n m ws s a′ Y D i
+pub record Passed (W J L : List ℕ) (n m : ℕ) (ws : List ℤ) (s a a′ : ℕ) (Y : List ℕ) (i c l : ℕ) : Type 0 where
+  pub tree : Grow W J L n m ws s a′ Y i c (count 64 a)
   pub keeps : (x : ℕ) → has a x ≡ true → has a′ x ≡ true
   pub into : (x : ℕ) → x < n → has l x ≡ false → 0 < carried W J L n ws c i x → has a′ x ≡ true
+
+-- The tree, of a before, after the hops of the taxa of a through column c.
+pub record Crossed (W J L : List ℕ) (n m : ℕ) (ws : List ℤ) (s a a′ : ℕ) (Y : List ℕ) (c : ℕ) : Type 0 where
+  pub tree : Rooted W J L n m ws s a′ Y
+  pub keeps : (x : ℕ) → has a x ≡ true → has a′ x ≡ true
+  pub into : (y x : ℕ) → has a y ≡ true → x < n → 0 < carried W J L n ws c y x → has a′ x ≡ true
 
 -- No taxon of the goal is in a.
 pub record Missed (goal a : ℕ) : Type 0 where
   pub none : (x : ℕ) → has goal x ≡ true → has a x ≡ false
 
--- The tree after the hops of i through all columns; through some, once a taxon of the goal is reached.
-pub record Spread (W J L : List ℕ) (n m : ℕ) (ws : List ℤ) (s a : ℕ) (Y : List ℕ) (D i goal : ℕ) : Type 0 where
-  pub tree : Grow W J L n m ws s a Y D i
-  pub into : Missed goal a → (c x : ℕ) → c < m → x < n → 0 < carried W J L n ws c i x → has a x ≡ true
-
--- The taxa of a that are not in D are left to look at, until a taxon of the goal is reached.
-pub record Waiting (a D goal left : ℕ) : Type 0 where
-  pub missed : 0 < left → Missed goal a
-  pub waits : (x : ℕ) → has left x ≡ true → (has a x ≡ true) × (has D x ≡ false)
-  pub ends : left ≡ 0 → Missed goal a → (x : ℕ) → has a x ≡ true → has D x ≡ true
+-- The tree, of a before, after the hops of the taxa of a through all columns from `first` on; through some, once a taxon of the goal is reached.
+pub record Swept (W J L : List ℕ) (n m : ℕ) (ws : List ℤ) (s a a′ : ℕ) (Y : List ℕ) (goal first : ℕ) : Type 0 where
+  pub tree : Rooted W J L n m ws s a′ Y
+  pub keeps : (x : ℕ) → has a x ≡ true → has a′ x ≡ true
+  pub into : Missed goal a′ → (c y x : ℕ) → first ≤ c → c < m → has a y ≡ true → x < n → 0 < carried W J L n ws c y x → has a′ x ≡ true
 
 -- s stands in the tree.
 pub record Planted (Y : List ℕ) (s : ℕ) : Type 0 where

@@ -4,16 +4,19 @@ use mathlib.Core.Bool.{Bool, true, false, cond}
 use mathlib.Core.List.{List}
 use Prim.Native.Nat.{ℕ, _*_, _≤_, _<_}
 use lib.Dec.{ltb}
+use lib.ListN.{length}
 use Rattle.taxa.specs.Sets.{has, _∩_, count}
 use Rattle.method.specs.Flow.{cutCost}
 use Rattle.search.specs.Network.{nth, caps}
 
 -- For each column below m, the taxa that it joins in S.
 pub record Joins (O Z : List ℕ) (S m : ℕ) (J : List ℕ) : Type 0 where
+  pub long : length J ≡ 256
   pub is : (c : ℕ) → c < m → nth J c ≡ cond (ltb 0 (count 64 (nth Z c ∩ S))) (nth O c ∩ S) 0
 
 -- For each column below m, what it lets through.
 pub record Limits (W Z : List ℕ) (S m : ℕ) (L : List ℕ) : Type 0 where
+  pub long : length L ≡ 256
   pub is : (c : ℕ) → c < m → nth L c ≡ nth W c * count 64 (nth Z c ∩ S)
 
 -- What a set of taxa cuts of the network in the lists.

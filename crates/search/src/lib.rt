@@ -12,7 +12,7 @@ ghost use lib.Dec.{ltb};
 ghost use lib.ListN.{length};
 ghost use Rattle.taxa.specs.Sets.{count, low};
 ghost use Rattle.search.specs.Workspace.{cleared, Kept};
-ghost use Rattle.search.specs.Network.{Net};
+ghost use Rattle.search.specs.Network.{Net, Spare, Lent};
 ghost use Rattle.search.specs.Flows.{Side};
 ghost use Rattle.search.specs.Search.{Given, DividedByFlow};
 ghost use Rattle.search.specs.Trying.{Joins, Limits, Tried};
@@ -24,31 +24,32 @@ fn unless_none(z: u32, x: u64) -> u64
     if 0 < z { x } else { 0 }
 }
 
-// The taxa of the group that each column joins: its ones, if it takes part.
-fn joined_of(ones: &[u64], zeros: &[u64], group: u64, m: usize) -> [u64; 256]
-    requires { ⌜ (m ≤ 256) × (m ≤ length (now ones)) × (m ≤ length (now zeros)) ⌝ }
-    ensures { λ r. ⌜ Joins (now (ones .entry)) (now (zeros .entry)) group m r ⌝ }
+// The network of the group: each column joins its ones in it, if it has a zero there, and lets its weight through for each of its zeros.
+fn network_of(
+    weights: &[u16],
+    ones: &[u64],
+    zeros: &[u64],
+    group: u64,
+    m: usize,
+    joined: &mut [u64; 256],
+    limits: &mut [u32; 256],
+)
+    requires { ⌜
+        (m ≤ 256)
+        × (m ≤ length (now weights))
+        × (m ≤ length (now ones))
+        × (m ≤ length (now zeros))
+        × (length (now joined) ≡ 256)
+        × (length (now limits) ≡ 256) ⌝ }
+    ensures { λ _. ⌜
+        Joins (now (ones .entry)) (now (zeros .entry)) group m (now (joined .exit))
+        × Limits (now (weights .entry)) (now (zeros .entry)) group m (now (limits .exit)) ⌝ }
 {
-    let mut joined = [0u64; 256];
     for c in 0..m {
-        joined[c] = unless_none(
-            taxa::count_in(zeros[c], group),
-            taxa::common(ones[c], group),
-        );
+        let z = taxa::count_in(zeros[c], group);
+        joined[c] = unless_none(z, taxa::common(ones[c], group));
+        limits[c] = reach::wide(weights[c]) * z;
     }
-    joined
-}
-
-// What each column lets through: its weight for each of its zeros in the group.
-fn limits_of(weights: &[u16], zeros: &[u64], group: u64, m: usize) -> [u32; 256]
-    requires { ⌜ (m ≤ 256) × (m ≤ length (now weights)) × (m ≤ length (now zeros)) ⌝ }
-    ensures { λ r. ⌜ Limits (now (weights .entry)) (now (zeros .entry)) group m r ⌝ }
-{
-    let mut limits = [0u32; 256];
-    for c in 0..m {
-        limits[c] = reach::wide(weights[c]) * taxa::count_in(zeros[c], group);
-    }
-    limits
 }
 
 // The taxa that hops reach from s past no flow.
@@ -59,17 +60,20 @@ fn connected(
     n: usize,
     m: usize,
     ws: &mut [i32],
+    used: &mut [u32; 256],
+    tree: &mut [u32; 256],
     s: usize,
 ) -> u64
-    requires { ⌜ Net (now weights) (now joined) (now limits) n m × (n * m ≤ length (now ws)) × (s < n) ⌝ }
+    requires { ⌜ Net (now weights) (now joined) (now limits) n m × (n * m ≤ length (now ws)) × (s < n) × Spare (now used) (now tree) ⌝ }
     ensures { λ r. ⌜
         Side (now (weights .entry)) (now (joined .entry)) (now (limits .entry)) n m (now (ws .exit)) s r
-        × (now (ws .exit) ≡ cleared (n * m) (now (ws .entry))) ⌝ }
+        × (now (ws .exit) ≡ cleared (n * m) (now (ws .entry)))
+        × Spare (now (used .exit)) (now (tree .exit)) ⌝ }
 {
     net::clear(ws, n * m);
-    let used = [0u32; 256];
-    let mut tree = [0u32; 256];
-    reach::reach(weights, joined, limits, n, m, ws, &used, &mut tree, s, 0)
+    push::unused(used, m);
+    // No path came before: the first sweep is left out, and whole ones do.
+    reach::reach(weights, joined, limits, n, m, ws, used, tree, s, 0, m)
 }
 
 // The least cost so far, and the taxon that it was met at first.
@@ -87,6 +91,8 @@ fn attempt(
     n: usize,
     m: usize,
     ws: &mut [i32],
+    used: &mut [u32; 256],
+    tree: &mut [u32; 256],
     s: usize,
     best: Best,
     u: usize,
@@ -96,15 +102,29 @@ fn attempt(
         × (n * m ≤ length (now ws))
         × (s < u)
         × (u < n)
-        × Tried (now weights) (now joined) (now limits) n m group s u (best .cost) (best .other) ⌝ }
+        × Tried (now weights) (now joined) (now limits) n m group s u (best .cost) (best .other)
+        × Spare (now used) (now tree) ⌝ }
     ensures { λ r. ⌜
         Tried (now (weights .entry)) (now (joined .entry)) (now (limits .entry)) n m group s (u + 1) (r .cost) (r .other)
-        × Kept (n * m) (now (ws .entry)) (now (ws .exit)) ⌝ }
+        × Kept (n * m) (now (ws .entry)) (now (ws .exit))
+        × Spare (now (used .exit)) (now (tree .exit)) ⌝ }
 {
     if !taxa::contains(group, u as u32) {
         return best;
     }
-    let cut = push::largest(weights, joined, limits, n, m, ws, s, u, best.cost);
+    let cut = push::largest(
+        weights,
+        joined,
+        limits,
+        n,
+        m,
+        ws,
+        used,
+        tree,
+        s,
+        u,
+        best.cost,
+    );
     if cut.size < best.cost {
         Best {
             cost: cut.size,
@@ -124,6 +144,8 @@ fn cheapest(
     n: usize,
     m: usize,
     ws: &mut [i32],
+    used: &mut [u32; 256],
+    tree: &mut [u32; 256],
     s: usize,
 ) -> Best
     requires { ⌜
@@ -131,19 +153,46 @@ fn cheapest(
         × (n * m ≤ length (now ws))
         × (group < 2 ^ n)
         × (1 < count n group)
-        × (s ≡ low n group) ⌝ }
+        × (s ≡ low n group)
+        × Spare (now used) (now tree) ⌝ }
     ensures { λ r. ⌜
         Tried (now (weights .entry)) (now (joined .entry)) (now (limits .entry)) n m group s n (r .cost) (r .other)
-        × Kept (n * m) (now (ws .entry)) (now (ws .exit)) ⌝ }
+        × Kept (n * m) (now (ws .entry)) (now (ws .exit))
+        × Spare (now (used .exit)) (now (tree .exit)) ⌝ }
 {
     let t = taxa::lowest(taxa::rest(group)) as usize;
-    let cut = push::largest(weights, joined, limits, n, m, ws, s, t, 4294967295);
+    let cut = push::largest(
+        weights,
+        joined,
+        limits,
+        n,
+        m,
+        ws,
+        used,
+        tree,
+        s,
+        t,
+        4294967295,
+    );
     let mut best = Best {
         cost: cut.size,
         other: t,
     };
     for u in t + 1..n {
-        best = attempt(weights, joined, limits, group, n, m, ws, s, best, u);
+        best = attempt(
+            weights,
+            joined,
+            limits,
+            group,
+            n,
+            m,
+            ws,
+            used,
+            tree,
+            s,
+            best,
+            u,
+        );
     }
     best
 }
@@ -164,16 +213,23 @@ pub fn divide(
     n: usize,
     m: usize,
     ws: &mut [i32],
+    joined: &mut [u64; 256],
+    limits: &mut [u32; 256],
+    used: &mut [u32; 256],
+    tree: &mut [u32; 256],
 ) -> Split
-    requires { ⌜ Given (now weights) (now ones) (now zeros) group n m × (n * m ≤ length (now ws)) ⌝ }
+    requires { ⌜
+        Given (now weights) (now ones) (now zeros) group n m
+        × (n * m ≤ length (now ws))
+        × Lent (now joined) (now limits) (now used) (now tree) ⌝ }
     ensures { λ r. ⌜
         DividedByFlow (now (weights .entry)) (now (ones .entry)) (now (zeros .entry)) group n m (now (ws .exit)) (r .cost) (r .other) (r .side)
-        × Kept (n * m) (now (ws .entry)) (now (ws .exit)) ⌝ }
+        × Kept (n * m) (now (ws .entry)) (now (ws .exit))
+        × Lent (now (joined .exit)) (now (limits .exit)) (now (used .exit)) (now (tree .exit)) ⌝ }
 {
-    let joined = joined_of(ones, zeros, group, m);
-    let limits = limits_of(weights, zeros, group, m);
+    network_of(weights, ones, zeros, group, m, joined, limits);
     let s = taxa::lowest(group) as usize;
-    let met = connected(weights, &joined, &limits, n, m, ws, s);
+    let met = connected(weights, joined, limits, n, m, ws, used, tree, s);
     let off = taxa::difference(group, met);
     if 0 < off {
         return Split {
@@ -182,8 +238,20 @@ pub fn divide(
             other: taxa::lowest(off) as usize,
         };
     }
-    let t = cheapest(weights, &joined, &limits, group, n, m, ws, s).other;
-    let cut = push::largest(weights, &joined, &limits, n, m, ws, s, t, 4294967295);
+    let t = cheapest(weights, joined, limits, group, n, m, ws, used, tree, s).other;
+    let cut = push::largest(
+        weights,
+        joined,
+        limits,
+        n,
+        m,
+        ws,
+        used,
+        tree,
+        s,
+        t,
+        4294967295,
+    );
     Split {
         cost: cut.size,
         side: cut.side,

@@ -9,7 +9,7 @@ ghost use lib.ListN.{length};
 ghost use Rattle.taxa.specs.Sets.{has};
 ghost use Rattle.search.specs.Workspace.{outs, inns, Kept, CanHop};
 ghost use Rattle.method.proofs.Carry.{Hopped};
-ghost use Rattle.search.specs.Network.{Net};
+ghost use Rattle.search.specs.Network.{Net, Spare, Unused};
 ghost use Rattle.search.specs.Flows.{CanCount, Counted, Flowing, Advanced, Largest};
 
 // d more from taxon i to taxon j through column c, and the count of what runs through it with that.
@@ -56,18 +56,33 @@ fn advance(
     m: usize,
     ws: &mut [i32],
     used: &mut [u32; 256],
+    tree: &mut [u32; 256],
     s: usize,
     t: usize,
     size: u32,
 ) -> Cut
-    requires { ⌜ Flowing (now weights) (now joined) (now limits) n m (now ws) (now used) s t size ⌝ }
+    requires { ⌜ Flowing (now weights) (now joined) (now limits) n m (now ws) (now used) s t size × (length (now tree) ≡ 256) ⌝ }
     ensures { λ r. ⌜
         Advanced (now (weights .entry)) (now (joined .entry)) (now (limits .entry)) n m (now (ws .exit)) (now (used .exit)) s t size (r .size) (r .side)
-        × Kept (n * m) (now (ws .entry)) (now (ws .exit)) ⌝ }
+        × Kept (n * m) (now (ws .entry)) (now (ws .exit))
+        × (length (now (tree .exit)) ≡ 256) ⌝ }
 {
-    let mut tree = [0u32; 256];
     let goal = taxa::single(t as u32);
-    let met = reach::reach(weights, joined, limits, n, m, ws, used, &mut tree, s, goal);
+    // A column to start at: the one through which the last path came to t, if there was one.
+    let first = index(tree[4 * t + 1]);
+    let met = reach::reach(
+        weights,
+        joined,
+        limits,
+        n,
+        m,
+        ws,
+        used,
+        tree,
+        s,
+        goal,
+        first,
+    );
     if !taxa::contains(met, t as u32) {
         return Cut {
             size: size,
@@ -101,6 +116,16 @@ fn grows(side: u64, t: usize, size: u32, bound: u32) -> bool
     }
 }
 
+// Nothing runs through the columns below m.
+pub fn unused(used: &mut [u32; 256], m: usize)
+    requires { ⌜ (m ≤ 256) × (length (now used) ≡ 256) ⌝ }
+    ensures { λ _. ⌜ Unused (now (used .exit)) m ⌝ }
+{
+    for c in 0..m {
+        used[c] = 0;
+    }
+}
+
 // A largest flow from s to t, from whatever stands in the workspace; it stops once it is no smaller than the bound.
 pub fn largest(
     weights: &[u16],
@@ -109,20 +134,41 @@ pub fn largest(
     n: usize,
     m: usize,
     ws: &mut [i32],
+    used: &mut [u32; 256],
+    tree: &mut [u32; 256],
     s: usize,
     t: usize,
     bound: u32,
 ) -> Cut
-    requires { ⌜ Net (now weights) (now joined) (now limits) n m × (n * m ≤ length (now ws)) × (s < n) × (t < n) × (t ≢ s) ⌝ }
+    requires { ⌜
+        Net (now weights) (now joined) (now limits) n m
+        × (n * m ≤ length (now ws))
+        × (s < n)
+        × (t < n)
+        × (t ≢ s)
+        × Spare (now used) (now tree) ⌝ }
     ensures { λ r. ⌜
         Largest (now (weights .entry)) (now (joined .entry)) (now (limits .entry)) n m (now (ws .exit)) s t bound (r .size) (r .side)
-        × Kept (n * m) (now (ws .entry)) (now (ws .exit)) ⌝ }
+        × Kept (n * m) (now (ws .entry)) (now (ws .exit))
+        × Spare (now (used .exit)) (now (tree .exit)) ⌝ }
 {
     net::clear(ws, n * m);
-    let mut used = [0u32; 256];
-    let mut cut = advance(weights, joined, limits, n, m, ws, &mut used, s, t, 0);
+    unused(used, m);
+    let mut cut = advance(weights, joined, limits, n, m, ws, used, tree, s, t, 0);
     while grows(cut.side, t, cut.size, bound) {
-        cut = advance(weights, joined, limits, n, m, ws, &mut used, s, t, cut.size);
+        cut = advance(
+            weights,
+            joined,
+            limits,
+            n,
+            m,
+            ws,
+            used,
+            tree,
+            s,
+            t,
+            cut.size,
+        );
     }
     cut
 }

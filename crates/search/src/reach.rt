@@ -1,14 +1,14 @@
-// The taxa that hops reach from s past the flow, breadth first. How each was reached goes into a lent tree, four numbers to a taxon: from which taxon,
-// through which column, at which turn, and the least that a hop of the way carries.
+// The taxa that hops reach from s past the flow, by sweeps over the columns. How each was reached goes into a lent tree, four numbers to a taxon: from
+// which taxon, through which column, at which turn, and the least that a hop of the way carries.
 use crate::net;
 ghost use mathlib.Core.Path.{_≡_};
 ghost use mathlib.Core.Bool.{true, false};
-ghost use Prim.Native.Nat.{ℕ, _+_, _-_, _≤_, _<_, _^_, min, max};
+ghost use Prim.Native.Nat.{_+_, _-_, _≤_, _<_, _^_, min, max};
 ghost use lib.ListN.{length};
-ghost use Rattle.taxa.specs.Sets.{has};
+ghost use Rattle.taxa.specs.Sets.{has, _⊆_};
 ghost use Rattle.search.specs.Workspace.{outs, inns, Entry};
 ghost use Rattle.search.specs.Network.{nth, Ready};
-ghost use Rattle.search.specs.Reaching.{IsGate, Grow, Offered, Passed, Missed, Spread, Waiting, Planted, Found};
+ghost use Rattle.search.specs.Reaching.{IsGate, Rooted, Leads, Offered, Passed, Crossed, Missed, Swept, Planted, Found};
 
 fn greatest(x: u32, y: u32) -> u32
     ensures { λ r. ⌜ r ≡ max x y ⌝ }
@@ -98,6 +98,38 @@ fn offer(tree: &mut [u32; 256], met: u64, j: usize, i: usize, c: usize, stamp: u
     taxa::union(met, taxa::single(j as u32))
 }
 
+// Of the taxa of x, which column c joins, one whose hop leads wherever a hop of any of them leads; 64 if none leads anywhere. A taxon that sends is such
+// a one if it turns flow back or the column has room; where none of those does, any that sends.
+fn sender(
+    weights: &[u16],
+    joined: &[u64; 256],
+    limits: &[u32; 256],
+    n: usize,
+    m: usize,
+    ws: &[i32],
+    used: &[u32; 256],
+    c: usize,
+    x: u64,
+) -> usize
+    requires { ⌜ Ready (now weights) (now joined) (now limits) n m (now ws) (now used) × (c < m) × (x ⊆ nth (now joined) c) ⌝ }
+    ensures { λ r. ⌜ Leads (now (weights .entry)) (now (joined .entry)) (now (limits .entry)) n (now (ws .entry)) c x r ⌝ }
+{
+    let mut found: usize = 64;
+    let mut left = x;
+    while 0 < left {
+        let i = taxa::lowest(left) as usize;
+        let g = gate_at(weights, limits, n, ws, used, c, i);
+        if 0 < g.sends {
+            if 0 < greatest(g.back, g.room) {
+                return i;
+            }
+            found = i;
+        }
+        left = taxa::rest(left);
+    }
+    found
+}
+
 // The taxa that a hop from i through column c reaches join.
 fn through(
     weights: &[u16],
@@ -110,22 +142,19 @@ fn through(
     tree: &mut [u32; 256],
     s: usize,
     met: u64,
-    done: u64,
     i: usize,
     c: usize,
 ) -> u64
     requires { ⌜
         Ready (now weights) (now joined) (now limits) n m (now ws) (now used)
-        × Grow (now weights) (now joined) (now limits) n m (now ws) s met (now tree) done i
+        × Rooted (now weights) (now joined) (now limits) n m (now ws) s met (now tree)
         × (c < m)
-        × (has (nth (now joined) c) i ≡ true) ⌝ }
-    ensures { λ r. ⌜ Passed (now (weights .entry)) (now (joined .entry)) (now (limits .entry)) n m (now (ws .entry)) s met r (now (tree .exit)) done i c 0 ⌝ }
+        × (has (nth (now joined) c) i ≡ true)
+        × (has met i ≡ true) ⌝ }
+    ensures { λ r. ⌜ Passed (now (weights .entry)) (now (joined .entry)) (now (limits .entry)) n m (now (ws .entry)) s met r (now (tree .exit)) i c 0 ⌝ }
 {
     let g = gate_at(weights, limits, n, ws, used, c, i);
-    if g.sends == 0 {
-        return met;
-    }
-    let stamp = taxa::size(done) + 1;
+    let stamp = taxa::size(met);
     let mut all = met;
     let mut left = taxa::difference(joined[c], met);
     while 0 < left {
@@ -137,29 +166,8 @@ fn through(
     all
 }
 
-// Whether a column that joins `joined` can lead from i to a taxon that is not met.
-fn worth(joined: u64, met: u64, i: usize) -> bool
-    requires { ⌜ i < 64 ⌝ }
-    ensures { λ r. ⌜
-        (r ≡ true → has joined i ≡ true)
-        × (r ≡ false → (x : ℕ) → has joined i ≡ true → has joined x ≡ true → has met x ≡ true) ⌝ }
-{
-    if taxa::contains(joined, i as u32) {
-        0 < taxa::difference(joined, met)
-    } else {
-        false
-    }
-}
-
-// Whether a taxon of the goal is in a.
-fn hits(goal: u64, a: u64) -> bool
-    ensures { λ r. ⌜ (r ≡ false → Missed goal a) × (r ≡ true → Missed goal a → ⊥) ⌝ }
-{
-    0 < taxa::common(goal, a)
-}
-
-// All taxa that a hop from i reaches join, until one of the goal does.
-fn expand(
+// The taxa that a hop from a taxon met through column c reaches join.
+fn pass(
     weights: &[u16],
     joined: &[u64; 256],
     limits: &[u32; 256],
@@ -170,59 +178,60 @@ fn expand(
     tree: &mut [u32; 256],
     s: usize,
     met: u64,
-    done: u64,
-    i: usize,
-    goal: u64,
+    c: usize,
 ) -> u64
     requires { ⌜
         Ready (now weights) (now joined) (now limits) n m (now ws) (now used)
-        × Grow (now weights) (now joined) (now limits) n m (now ws) s met (now tree) done i ⌝ }
-    ensures { λ r. ⌜ Spread (now (weights .entry)) (now (joined .entry)) (now (limits .entry)) n m (now (ws .entry)) s r (now (tree .exit)) done i goal ⌝ }
+        × Rooted (now weights) (now joined) (now limits) n m (now ws) s met (now tree)
+        × (c < m) ⌝ }
+    ensures { λ r. ⌜ Crossed (now (weights .entry)) (now (joined .entry)) (now (limits .entry)) n m (now (ws .entry)) s met r (now (tree .exit)) c ⌝ }
+{
+    if taxa::subset(joined[c], met) {
+        return met;
+    }
+    let here = taxa::common(joined[c], met);
+    let i = sender(weights, joined, limits, n, m, ws, used, c, here);
+    if i == 64 {
+        return met;
+    }
+    through(weights, joined, limits, n, m, ws, used, tree, s, met, i, c)
+}
+
+// Whether a taxon of the goal is in a.
+fn hits(goal: u64, a: u64) -> bool
+    ensures { λ r. ⌜ (r ≡ false → Missed goal a) × (r ≡ true → Missed goal a → ⊥) ⌝ }
+{
+    0 < taxa::common(goal, a)
+}
+
+// One sweep over the columns from the first that is asked for, until a taxon of the goal is reached.
+fn sweep(
+    weights: &[u16],
+    joined: &[u64; 256],
+    limits: &[u32; 256],
+    n: usize,
+    m: usize,
+    ws: &[i32],
+    used: &[u32; 256],
+    tree: &mut [u32; 256],
+    s: usize,
+    met: u64,
+    goal: u64,
+    first: usize,
+) -> u64
+    requires { ⌜
+        Ready (now weights) (now joined) (now limits) n m (now ws) (now used)
+        × Rooted (now weights) (now joined) (now limits) n m (now ws) s met (now tree) ⌝ }
+    ensures { λ r. ⌜ Swept (now (weights .entry)) (now (joined .entry)) (now (limits .entry)) n m (now (ws .entry)) s met r (now (tree .exit)) goal first ⌝ }
 {
     let mut all = met;
-    for c in 0..m {
-        if worth(joined[c], all, i) {
-            all = through(
-                weights,
-                joined,
-                limits,
-                n,
-                m,
-                ws,
-                used,
-                tree,
-                s,
-                all,
-                done,
-                i,
-                c,
-            );
-            if hits(goal, all) {
-                return all;
-            }
+    for c in first..m {
+        if hits(goal, all) {
+            return all;
         }
+        all = pass(weights, joined, limits, n, m, ws, used, tree, s, all, c);
     }
     all
-}
-
-// The taxa to look at next: those of the layer that are left, or else all that are left.
-fn front(layer: u64, left: u64) -> u64
-    requires { ⌜ 0 < left ⌝ }
-    ensures { λ r. ⌜ (0 < r) × ((x : ℕ) → has r x ≡ true → has left x ≡ true) ⌝ }
-{
-    let rest = taxa::common(layer, left);
-    if 0 < rest { rest } else { left }
-}
-
-// The taxa of a that are not done, until a taxon of the goal is reached.
-fn waiting(a: u64, done: u64, goal: u64) -> u64
-    ensures { λ r. ⌜ Waiting a done goal r ⌝ }
-{
-    if hits(goal, a) {
-        0
-    } else {
-        taxa::difference(a, done)
-    }
 }
 
 // The tree of s alone, which has turn 0.
@@ -235,7 +244,8 @@ fn plant(tree: &mut [u32; 256], s: usize) -> u64
     taxa::single(s as u32)
 }
 
-// The taxa that hops reach from s; some of them only, once a taxon of the goal is among them.
+// The taxa that hops reach from s; some of them only, once a taxon of the goal is among them. The first sweep may start at any column, as whole ones
+// follow it: the goal is met soonest where the last path to it came through.
 pub fn reach(
     weights: &[u16],
     joined: &[u64; 256],
@@ -247,18 +257,33 @@ pub fn reach(
     tree: &mut [u32; 256],
     s: usize,
     goal: u64,
+    first: usize,
 ) -> u64
     requires { ⌜ Ready (now weights) (now joined) (now limits) n m (now ws) (now used) × (length (now tree) ≡ 256) × (s < n) ⌝ }
-    ensures { λ r. ⌜ Found (now (weights .entry)) (now (joined .entry)) (now (limits .entry)) n m (now (ws .entry)) s r (now (tree .exit)) goal ⌝ }
+    ensures { λ r. ⌜
+        Found (now (weights .entry)) (now (joined .entry)) (now (limits .entry)) n m (now (ws .entry)) s r (now (tree .exit)) goal
+        × (length (now (tree .exit)) ≡ 256) ⌝ }
 {
-    let mut met = plant(tree, s);
-    let mut done: u64 = 0;
-    let mut layer: u64 = 0;
-    let mut left = waiting(met, done, goal);
-    while 0 < left {
-        layer = front(layer, left);
-        let i = taxa::lowest(layer);
-        met = expand(
+    let start = plant(tree, s);
+    // What the last whole sweep started from: nobody, as none was made yet.
+    let mut met: u64 = 0;
+    let mut next = sweep(
+        weights,
+        joined,
+        limits,
+        n,
+        m,
+        ws,
+        used,
+        tree,
+        s,
+        start,
+        goal,
+        first,
+    );
+    while met < next {
+        met = next;
+        next = sweep(
             weights,
             joined,
             limits,
@@ -269,12 +294,9 @@ pub fn reach(
             tree,
             s,
             met,
-            done,
-            i as usize,
             goal,
+            0,
         );
-        done = taxa::union(done, taxa::single(i));
-        left = waiting(met, done, goal);
     }
     met
 }

@@ -7,6 +7,7 @@ ghost use Prim.Native.Nat.{_*_, _≤_};
 ghost use lib.ListN.{length};
 ghost use Rattle.taxa.specs.Sets.{count};
 ghost use Rattle.search.specs.Search.{colsOf, Given};
+ghost use Rattle.search.specs.Network.{Lent};
 ghost use Rattle.search.specs.Workspace.{cleared};
 ghost use Rattle.split.specs.Columns.{Parallel};
 ghost use Rattle.split.specs.Groups.{IsSplit, HandsOn};
@@ -20,13 +21,33 @@ pub fn divide(
     n: usize,
     m: usize,
     workspace: &mut [i32],
+    joined: &mut [u64; 256],
+    limits: &mut [u32; 256],
+    used: &mut [u32; 256],
+    tree: &mut [u32; 256],
 ) -> Split
-    requires { ⌜ Given (now weights) (now ones) (now zeros) group n m × (n * m ≤ length (now workspace)) ⌝ }
+    requires { ⌜
+        Given (now weights) (now ones) (now zeros) group n m
+        × (n * m ≤ length (now workspace))
+        × Lent (now joined) (now limits) (now used) (now tree) ⌝ }
     ensures { λ r. ⌜
         IsSplit m (colsOf (now (weights .entry)) (now (ones .entry)) (now (zeros .entry))) group (r .cost) (r .side) (r .other)
-        × (now (workspace .exit) ≡ cleared (n * m) (now (workspace .entry))) ⌝ }
+        × (now (workspace .exit) ≡ cleared (n * m) (now (workspace .entry)))
+        × Lent (now (joined .exit)) (now (limits .exit)) (now (used .exit)) (now (tree .exit)) ⌝ }
 {
-    let found = search::divide(weights, ones, zeros, group, n, m, workspace);
+    let found = search::divide(
+        weights,
+        ones,
+        zeros,
+        group,
+        n,
+        m,
+        workspace,
+        joined,
+        limits,
+        used,
+        tree,
+    );
     search::net::clear(workspace, n * m);
     found
 }
@@ -46,18 +67,36 @@ pub fn split_group(
     n: usize,
     workspace: &mut [i32],
     list: &mut [u64],
+    joined: &mut [u64; 256],
+    limits: &mut [u32; 256],
+    used: &mut [u32; 256],
+    tree: &mut [u32; 256],
 ) -> Handed
     requires { ⌜
         Given (now weights) (now ones) (now zeros) group n (length (now weights))
         × Parallel (now weights) (now ones) (now zeros)
         × (n * length (now weights) ≤ length (now workspace))
-        × (count 64 group ≤ length (now list)) ⌝ }
+        × (count 64 group ≤ length (now list))
+        × Lent (now joined) (now limits) (now used) (now tree) ⌝ }
     ensures { λ r. ⌜
         HandsOn (now (weights .entry)) (now (ones .entry)) (now (zeros .entry)) (now (ones .exit)) (now (zeros .exit)) group
         (now (list .entry)) (now (list .exit)) (r .cost) (r .number)
-        × (now (workspace .exit) ≡ cleared (n * length (now (weights .entry))) (now (workspace .entry))) ⌝ }
+        × (now (workspace .exit) ≡ cleared (n * length (now (weights .entry))) (now (workspace .entry)))
+        × Lent (now (joined .exit)) (now (limits .exit)) (now (used .exit)) (now (tree .exit)) ⌝ }
 {
-    let found = divide(weights, ones, zeros, group, n, weights.len(), workspace);
+    let found = divide(
+        weights,
+        ones,
+        zeros,
+        group,
+        n,
+        weights.len(),
+        workspace,
+        joined,
+        limits,
+        used,
+        tree,
+    );
     columns::flip_columns(weights, ones, zeros, group, found.side);
     let number = parts::parts(ones, zeros, group, list);
     Handed {

@@ -40,7 +40,23 @@ fn split_loaded(
     ensures { λ r. ⌜ (r ≡ splitOf (matrixIn (now (file .entry))) group) × (now (workspace .exit) ≡ cleared (n * m) (now (workspace .entry))) ⌝ }
 {
     columns::load(file, weights, ones, zeros);
-    let found = group::divide(weights, ones, zeros, group, n, m, workspace);
+    let mut joined = [0u64; 256];
+    let mut limits = [0u32; 256];
+    let mut used = [0u32; 256];
+    let mut tree = [0u32; 256];
+    let found = group::divide(
+        weights,
+        ones,
+        zeros,
+        group,
+        n,
+        m,
+        workspace,
+        &mut joined,
+        &mut limits,
+        &mut used,
+        &mut tree,
+    );
     Divided::Taken(found.cost, found.side, found.other as u32)
 }
 

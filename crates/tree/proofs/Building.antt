@@ -1,17 +1,17 @@
--- The build of a file that nothing refuses: what its steps ask for (`grow-ready`, `grow-room`, `to-write`), that what they come to is the content of the
+-- The build of a file that nothing refuses: what its steps ask for (`lent-ready`, `lent-room`, `to-write`), that what they come to is the content of the
 -- method's answer (`built-content`), and that writing it is not refused (`written-all`). Then the rows of
 -- the operation's table.
-use mathlib.Core.Path.{_≡_, refl, ap, _∙_}
+use mathlib.Core.Path.{_≡_, refl, sym, ap, _∙_}
 use mathlib.Core.List.{List, _++_}
 use Prim.Native.Nat.{ℕ, zero, suc, _+_, _*_, _≤_, _<_}
 use native.Mathlib.Omega.{arith}
 use lib.IntN.{ℤ, pos}
-use lib.ListN.{length, drop, replicate, length-replicate}
-use lib.Seq.{drop-at}
+use lib.ListN.{length, take, drop, replicate, length-replicate, length-append, length-drop}
+use lib.Seq.{take-at, drop-at, getD-take}
 use borrow.Author.Tests.{lt-ltb, le-ltb}
-use Rattle.taxa.specs.Sets.{count, all}
+use Rattle.taxa.specs.Sets.{all}
 use Rattle.taxa.proofs.Members.{all-<, all-fits}
-use Rattle.taxa.proofs.Counts.{count-le, count-all}
+use Rattle.taxa.proofs.Counts.{count-all}
 use Rattle.record.specs.Bytes.{File, over}
 use Rattle.record.specs.Records.{refused}
 use Rattle.record.specs.declared.Refusal.{Refusal}
@@ -30,11 +30,11 @@ use Rattle.method.proofs.Promises as promises
 use Rattle.search.specs.Workspace.{cleared}
 use Rattle.search.specs.Search.{colsOf}
 use Rattle.split.specs.Columns.{Parallel, matrixIn}
-use Rattle.split.proofs.Soundness.{taken-count, taken-known, few-taxa, few-columns, taken-sound}
+use Rattle.split.proofs.Soundness.{taken-count, taken-known, few-taxa, few-columns, can-load, taken-sound}
 use Rattle.tree.specs.declared.Built.{Built}
 use Rattle.tree.specs.declared.Built.the-variants.{Refused}
 use Rattle.tree.specs.Lists.{firstGroups, Room, unweighed}
-use Rattle.tree.specs.Grow.{Ready, Grown, Walked, Answers}
+use Rattle.tree.specs.Grow.{entriesFor, LentLists, Ready, Grown, walkFrom, Walked, Answers}
 use Rattle.tree.specs.Build.{contentWith, contentFor, roomFor, takenOf, Buildable, answered, built, outputAfter, workspaceAfter, returned, buildNumbers}
 use Rattle.tree.proofs.Rules.{answer-lawful, answer-fits, flips-few}
 
@@ -42,11 +42,20 @@ use Rattle.tree.proofs.Rules.{answer-lawful, answer-fits, flips-few}
 pub cleared-twice : (k : ℕ) (ws : List ℤ) → cleared k (cleared k ws) ≡ cleared k ws
 cleared-twice k ws = ap (_++_ (replicate k (pos 0))) (drop-at (replicate k (pos 0)) (drop k ws) k (length-replicate k (pos 0)))
 
--- The flip list asks for no weight.
-same-flips : (m : ℕ) (ws ws′ os zs os′ zs′ : List ℕ) → flipList m (unweighed os zs) (unweighed os′ zs′) ≡ flipList m (colsOf ws os zs) (colsOf ws′ os′ zs′)
-unfolding flipList colsOf
-same-flips zero ws ws′ os zs os′ zs′ = refl
-same-flips (suc m) ws ws′ os zs os′ zs′ = rw (same-flips m ws ws′ os zs os′ zs′)
+-- The flip list asks for no weight, and for no column past the last.
+same-flips : (m : ℕ) (old new new′ : ℕ → Column) → ((c : ℕ) → c < m → (new c .ones ≡ new′ c .ones) × (new c .zeros ≡ new′ c .zeros)) → flipList m old new ≡ flipList m old new′
+unfolding flipList
+same-flips zero old new new′ same = refl
+same-flips (suc m) old new new′ same =
+    let (ones, zeros) = same m (omega arith) in
+    rw (same-flips m old new new′ (λ c l. same c (omega arith)), ones, zeros)
+
+-- A list of which the first k entries were lent and came back.
+pub front-fits : (new rest : List ℕ) {k : ℕ} → length new ≡ k → k ≤ length (new ++ rest)
+front-fits new rest e = omega (arith, length-append new rest)
+
+pub still-long : (new old : List ℕ) {k : ℕ} → length new ≡ k → k ≤ length old → length (new ++ drop k old) ≡ length old
+still-long new old {k} e l = omega (arith, length-append new (drop k old), length-drop k old)
 
 module _ {file : List ℕ} {n m space room : ℕ} (f : File file) (b : Buildable file n m space room) where
   abbrev M : Matrix
@@ -60,7 +69,7 @@ module _ {file : List ℕ} {n m space room : ℕ} (f : File file) (b : Buildable
 
   -- ---- the walk from all taxa
 
-  pub grow-ready : {ws os zs : List ℕ} {clear : List ℤ} (before : List ℤ) → Parallel ws os zs → length ws ≡ m → clear ≡ cleared (n * m) before → length clear ≡ space
+  grow-ready : {ws os zs : List ℕ} {clear : List ℤ} (before : List ℤ) → Parallel ws os zs → length ws ≡ m → clear ≡ cleared (n * m) before → length clear ≡ space
       → Ready ws os zs (all n) n clear
   grow-ready before p e c l =
       record {
@@ -72,52 +81,75 @@ module _ {file : List ℕ} {n m space room : ℕ} (f : File file) (b : Buildable
         clear = rw (e, c) (cleared-twice (n * m) before);
       }
 
-  -- A list of 128 has room for twice the taxa.
-  pub list-room : (room : ℕ) → room ≡ 128 → 2 * count 64 (all n) ≤ room
-  list-room room long = omega (arith, count-le 64 (all n))
-
   few-groups : (cols : ℕ → Column) → length (build 64 m cols (all n) .groups) ≤ 63
   few-groups cols =
       let few = few-taxa f (b .taken) in
       let size = count-all 64 n few in
       omega (arith, build-length 64 m cols (all n) (all-fits 64 few) (omega (arith, ok .some, taken-known f (b .taken))))
 
-  pub grow-room : (ws os zs : List ℕ) {ts cs : List ℕ} → length ws ≡ m → length ts ≡ 63 → length cs ≡ 63 → Room (0 + length (build 64 (length ws) (colsOf ws os zs) (all n) .groups)) ts cs
+  grow-room : (ws os zs : List ℕ) {ts cs : List ℕ} → length ws ≡ m → length ts ≡ 63 → length cs ≡ 63 → Room (length (walkFrom ws os zs (all n) .groups)) ts cs
   grow-room ws os zs e t c = rw e (let few = few-groups (colsOf ws os zs) in record { taxa-room = omega arith; costs-room = omega arith })
+
+  -- The columns stand in front of other entries.
+  module _ (ws os zs w o z : List ℕ) (p : Parallel ws os zs) (sized : length ws ≡ m) where
+    abbrev lent : List ℕ
+    lent = take m (ws ++ w)
+
+    lent-is : lent ≡ ws
+    lent-is = take-at ws w m sized
+
+    ones-are : entriesFor lent (os ++ o) ≡ os
+    ones-are = rw lent-is (take-at os o (length ws) (p .ones))
+
+    zeros-are : entriesFor lent (zs ++ z) ≡ zs
+    zeros-are = rw lent-is (take-at zs z (length ws) (p .zeros))
+
+    lent-sized : length lent ≡ m
+    lent-sized = rw lent-is sized
+
+    pub lent-columns : colsOf ws os zs ≡ file-columns → colsOf lent (entriesFor lent (os ++ o)) (entriesFor lent (zs ++ z)) ≡ file-columns
+    lent-columns e = rw (ones-are, zeros-are, lent-is) e
+
+    pub lent-ready : {clear : List ℤ} (before : List ℤ) → clear ≡ cleared (n * m) before → length clear ≡ space → Ready lent (entriesFor lent (os ++ o)) (entriesFor lent (zs ++ z)) (all n) n clear
+    lent-ready before c l = rw (ones-are, zeros-are, lent-is) (grow-ready before p sized c l)
+
+    pub lent-room : {ts cs : List ℕ} → length ts ≡ 63 → length cs ≡ 63 → Room (length (walkFrom lent (entriesFor lent (os ++ o)) (entriesFor lent (zs ++ z)) (all n) .groups)) ts cs
+    lent-room t c = grow-room lent _ _ lent-sized t c
 
   -- ---- what it comes to
 
-  module _ (ws os zs ws′ os′ zs′ os″ zs″ ts cs ts′ cs′ : List ℕ) {clear clear′ : List ℤ} (S k : ℕ) (before : colsOf ws os zs ≡ file-columns) (start : colsOf ws′ os′ zs′ ≡ file-columns)
-      (sized : length ws′ ≡ m) (whole : S ≡ all n) (g : Grown ws′ os″ zs″ clear clear′ (build 64 (length ws′) (colsOf ws′ os′ zs′) S) (firstGroups ts cs 0) (firstGroups ts′ cs′ k) 0 k) where
+  module _ (ws os zs os′ zs′ ts cs ts′ cs′ : List ℕ) {clear clear′ : List ℤ} (k : ℕ) (start : colsOf ws (entriesFor ws os) (entriesFor ws zs) ≡ file-columns) (sized : length ws ≡ m)
+      (g : Grown ws (entriesFor ws os′) (entriesFor ws zs′) clear clear′ (walkFrom ws (entriesFor ws os) (entriesFor ws zs) (all n)) (firstGroups ts cs 0) (firstGroups ts′ cs′ k) 0 k) where
     walked-groups : firstGroups ts′ cs′ k ≡ build 64 (length (M .columns)) file-columns (all (M .taxa)) .groups
     unfolding firstGroups
-    walked-groups = g .groups ∙ rw (sized, start, whole, taken-count f (b .taken), taken-known f (b .taken))
+    walked-groups = g .groups ∙ rw (start, sized, taken-count f (b .taken), taken-known f (b .taken))
 
     groups-are : ordered 64 n (firstGroups ts′ cs′ k) ≡ answer M .groups
     unfolding answer
     groups-are = rw (walked-groups, taken-known f (b .taken))
 
-    flips-are : flipList m (unweighed os zs) (unweighed os″ zs″) ≡ answer M .flips
-    unfolding answer
+    flips-are : flipList m file-columns (unweighed os′ zs′) ≡ answer M .flips
+    unfolding answer colsOf
     flips-are =
-        same-flips m ws ws′ os zs os″ zs″
-        ∙ rw (before, g .columns, sized, start, whole, taken-count f (b .taken), taken-known f (b .taken))
+        same-flips m file-columns (unweighed os′ zs′) (colsOf ws (entriesFor ws os′) (entriesFor ws zs′))
+        (λ c l. (sym (getD-take (length ws) os′ c 0 (omega arith)), sym (getD-take (length ws) zs′ c 0 (omega arith))))
+        ∙ rw (g .columns, start, sized, taken-count f (b .taken), taken-known f (b .taken))
 
-    pub built-content : contentWith n m (ordered 64 n (firstGroups ts′ cs′ k)) (flipList m (unweighed os zs) (unweighed os″ zs″)) ≡ contentFor M
+    pub built-content : contentWith n m (ordered 64 n (firstGroups ts′ cs′ k)) (flipList m file-columns (unweighed os′ zs′)) ≡ contentFor M
     unfolding contentFor
     built-content = rw (groups-are, flips-are, taken-count f (b .taken), taken-known f (b .taken))
 
-    pub to-write : length os ≡ m → length zs ≡ m → length os″ ≡ m → length zs″ ≡ m → length ts′ ≡ 63 → length cs′ ≡ 63 → Walked os zs os″ zs″ n m ts′ cs′ k
+    pub to-write : LentLists os′ zs′ ts′ cs′ → Walked file os′ zs′ n m ts′ cs′ k
     unfolding answer
-    to-write o z o″ z″ t c =
-        let few = rw (sized, start, whole) at (g .many) in
+    to-write h =
+        let few = rw (start, sized) at (g .many) in
         record {
-          columns = few-columns f (b .taken);
-          ones = omega arith;
-          zeros = omega arith;
-          ones-after = omega arith;
-          zeros-after = omega arith;
-          listed = let l = few-groups file-columns in record { taxa-room = omega arith; costs-room = omega arith };
+          columns = sym (taken-count f (b .taken));
+          few-columns = few-columns f (b .taken);
+          whole = can-load f (b .taken) refl .1;
+          ones = h .ones;
+          zeros = h .zeros;
+          listed = let l = few-groups file-columns in record { taxa-room = omega (arith, h .walked); costs-room = omega (arith, h .paid) };
           few = rw groups-are (omega (arith, promises.groups-few M ok, few-taxa f (b .taken), taken-known f (b .taken)));
           small = rw groups-are (omega (arith, promises.total-small M ok));
         }

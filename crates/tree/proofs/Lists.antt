@@ -14,7 +14,7 @@ use Rattle.taxa.specs.Sets.{_∩_}
 use Rattle.method.specs.Split.{Column}
 use Rattle.method.specs.Tree.{Group, Flips, kept, ordered, flipsOf, flipList, total}
 use Rattle.method.proofs.Walks.{total-++}
-use Rattle.tree.specs.Lists.{firstGroups, startsAt, firstFlips, FlipRoom, unflipped}
+use Rattle.tree.specs.Lists.{firstGroups, startsAt, firstFlips, FlipRoom, SameFrom, unflipped}
 
 -- ---- elements by their number
 
@@ -143,6 +143,16 @@ put-flips ns us ds at n u d r =
       getD-set-same us at u 0 (omega (arith, r .raised-room)),
       getD-set-same ds at d 0 (omega (arith, r .lowered-room)),
     )
+
+-- What stands from a place on: a store before it changes nothing there.
+pub same-all : (k : ℕ) (xs : List ℕ) → SameFrom k xs xs
+same-all k xs = record { same = λ i l. refl }
+
+pub same-past : (xs : List ℕ) (at x : ℕ) → SameFrom (at + 1) xs (set xs at x)
+same-past xs at x = record { same = λ i l. getD-set-other xs at i x 0 (omega arith) }
+
+pub same-on : {j k l : ℕ} {xs ys zs : List ℕ} → SameFrom j xs ys → SameFrom k ys zs → j ≤ l → k ≤ l → SameFrom l xs zs
+same-on a b j k = record { same = λ i h. b .same i (omega arith) ∙ a .same i (omega arith) }
 
 -- Its columns, raised sets and lowered sets apart.
 module _ (ns us ds : List ℕ) where

@@ -97,11 +97,3 @@ pub record Buildable (file : List ℕ) (n m space room : ℕ) : Type 0 where
   pub taken : checks.Taken n m ≡ checked file
   pub places : n * m ≤ space
   pub fits : roomFor n m ≤ room
-
--- Five slices, with an entry for each of m columns.
-pub record Slices (m : ℕ) (weights ones zeros after off : List ℕ) : Type 0 where
-  pub weights-all : length weights ≡ m
-  pub ones-all : length ones ≡ m
-  pub zeros-all : length zeros ≡ m
-  pub after-all : length after ≡ m
-  pub off-all : length off ≡ m

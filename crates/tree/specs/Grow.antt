@@ -3,7 +3,7 @@ use mathlib.Core.Path.{_≡_}
 use mathlib.Core.List.{List, _++_}
 use Prim.Native.Nat.{ℕ, _+_, _*_, _^_, _≤_, _<_}
 use lib.IntN.{ℤ}
-use lib.ListN.{length, getD}
+use lib.ListN.{length, getD, take}
 use Rattle.taxa.specs.Sets.{count}
 use Rattle.method.specs.Tree.{Group, Walk, build, walked, ordered, total}
 use Rattle.answer.specs.declared.Written.{Written}
@@ -12,7 +12,7 @@ use Rattle.answer.specs.Content.{Content, fileOf}
 use Rattle.answer.specs.Writing.{writing, put}
 use Rattle.search.specs.Workspace.{cleared}
 use Rattle.search.specs.Search.{colsOf}
-use Rattle.split.specs.Columns.{Parallel}
+use Rattle.split.specs.Columns.{Parallel, matrixIn}
 use Rattle.tree.specs.declared.Built.{Built}
 use Rattle.tree.specs.declared.Built.the-variants.{Taken, Refused}
 use Rattle.tree.specs.Lists.{firstGroups, Room}
@@ -25,6 +25,17 @@ pub record Ready (ws os zs : List ℕ) (S n : ℕ) (space : List ℤ) : Type 0 w
   pub group : S < 2 ^ n
   pub places : n * length ws ≤ length space
   pub clear : cleared (n * length ws) space ≡ space
+
+-- As many entries of a list as there are weights: those that stand for columns.
+abbrev pub entriesFor : List ℕ → List ℕ → List ℕ
+entriesFor ws xs = take (length ws) xs
+
+-- The lists of columns and of groups that are lent while the tree grows.
+pub record LentLists (os zs taxa costs : List ℕ) : Type 0 where
+  pub ones : length os ≡ 256
+  pub zeros : length zs ≡ 256
+  pub walked : length taxa ≡ 63
+  pub paid : length costs ≡ 63
 
 -- The walk from a group, on columns in three lists.
 abbrev pub walkFrom : List ℕ → List ℕ → List ℕ → ℕ → Walk
@@ -48,13 +59,14 @@ pub record AllSmall (Ps : List ℕ) (n bound room : ℕ) : Type 0 where
   pub small : (i : ℕ) → i < length Ps → count 64 (getD Ps i 0) < bound
   pub fits : (i : ℕ) → i < length Ps → 2 * count 64 (getD Ps i 0) ≤ room
 
--- What there is to write: m columns before and after, and k groups as walked, whose list in file order fits 63 places and whose total fits 4 bytes.
-pub record Walked (os zs os′ zs′ : List ℕ) (n m : ℕ) (walked paid : List ℕ) (k : ℕ) : Type 0 where
-  pub columns : m ≤ 256
-  pub ones : m ≤ length os
-  pub zeros : m ≤ length zs
-  pub ones-after : m ≤ length os′
-  pub zeros-after : m ≤ length zs′
+-- What there is to write: a file's m columns and what became of them, and k groups as walked, whose list in file order fits 63 places and whose total
+-- fits 4 bytes.
+pub record Walked (file os zs : List ℕ) (n m : ℕ) (walked paid : List ℕ) (k : ℕ) : Type 0 where
+  pub columns : m ≡ length (matrixIn file .columns)
+  pub few-columns : m ≤ 256
+  pub whole : 12 + 22 * m ≤ length file
+  pub ones : length os ≡ 256
+  pub zeros : length zs ≡ 256
   pub listed : Room k walked paid
   pub few : length (ordered 64 n (firstGroups walked paid k)) ≤ 63
   pub small : total (ordered 64 n (firstGroups walked paid k)) < 2 ^ 32

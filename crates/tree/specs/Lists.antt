@@ -1,4 +1,5 @@
 -- Lists of groups and of flips, as the parallel lists of numbers that hold them.
+use mathlib.Core.Path.{_≡_}
 use mathlib.Core.Bool.{Bool, _&&_}
 use mathlib.Core.List.{List, [], _∷_, _++_}
 use Prim.Native.Nat.{ℕ, zero, suc, _≤_}
@@ -33,6 +34,10 @@ pub record FlipRoom (k : ℕ) (columns raised lowered : List ℕ) : Type 0 where
   pub columns-room : k ≤ length columns
   pub raised-room : k ≤ length raised
   pub lowered-room : k ≤ length lowered
+
+-- Two lists have the same entries from place k on.
+pub record SameFrom (k : ℕ) (xs ys : List ℕ) : Type 0 where
+  pub same : (i : ℕ) → k ≤ i → getD ys i 0 ≡ getD xs i 0
 
 -- Columns by their 1-sets and 0-sets; the flip list asks for nothing else.
 abbrev pub unweighed : List ℕ → List ℕ → ℕ → Column

@@ -19,10 +19,11 @@ ghost use Rattle.matrix.specs.declared.Checked.the-variants as checks;
 ghost use Rattle.answer.specs.Content.{fileOf};
 ghost use Rattle.search.specs.Workspace.{cleared};
 ghost use Rattle.split.specs.Columns.{matrixIn};
-ghost use Rattle.method.specs.Tree.{ordered, flipList};
-ghost use Rattle.tree.specs.Lists.{firstGroups, unweighed};
-ghost use Rattle.tree.specs.Grow.{Walked, Answers};
-ghost use Rattle.tree.specs.Build.{contentWith, contentFor, takenOf, Buildable, Slices, answered, outputAfter, workspaceAfter, Builds};
+ghost use Rattle.taxa.specs.Sets.{all};
+ghost use Rattle.method.specs.Tree.{column, ordered, flipList};
+ghost use Rattle.tree.specs.Lists.{firstGroups, Room, unweighed};
+ghost use Rattle.tree.specs.Grow.{entriesFor, LentLists, Ready, Grown, walkFrom, Walked, Answers};
+ghost use Rattle.tree.specs.Build.{contentWith, contentFor, takenOf, Buildable, answered, outputAfter, workspaceAfter, Builds};
 
 // What the build answers: the length written and the total, or the refusal.
 pub enum Built {
@@ -30,12 +31,11 @@ pub enum Built {
     Refused(Refusal),
 }
 
-// A walk's groups, put into file order, and the flips of its columns, written as an answer file.
+// A walk's groups, put into file order, and the flips of its columns, written as an answer file. The lists of the flips take the columns' places.
 fn write_answer(
-    ones: &[u64],
-    zeros: &[u64],
-    after: &[u64],
-    off: &[u64],
+    file: &[u8],
+    ones: &mut [u64],
+    zeros: &mut [u64],
     n: u16,
     m: u16,
     walked: &[u64],
@@ -43,10 +43,10 @@ fn write_answer(
     k: usize,
     out: &mut [u8],
 ) -> Built
-    requires { ⌜ Walked (now ones) (now zeros) (now after) (now off) n m (now walked) (now paid) k ⌝ }
+    requires { ⌜ Walked (now file) (now ones) (now zeros) n m (now walked) (now paid) k ⌝ }
     ensures { λ r. ⌜
         Answers (contentWith n m (ordered 64 n (firstGroups (now (walked .entry)) (now (paid .entry)) k))
-        (flipList m (unweighed (now (ones .entry)) (now (zeros .entry))) (unweighed (now (after .entry)) (now (off .entry)))))
+        (flipList m (column (matrixIn (now (file .entry)) .columns)) (unweighed (now (ones .entry)) (now (zeros .entry)))))
         (now (out .entry)) r (now (out .exit)) ⌝ }
 {
     let mut taxa = [0u64; 63];
@@ -54,18 +54,7 @@ fn write_answer(
     let groups = order::in_order(walked, paid, k, n as u32, &mut taxa, &mut costs);
     let total = order::sum_costs(&costs, groups);
     let mut columns = [0u64; 256];
-    let mut raised = [0u64; 256];
-    let mut lowered = [0u64; 256];
-    let flips = order::list_flips(
-        ones,
-        zeros,
-        after,
-        off,
-        m as usize,
-        &mut columns,
-        &mut raised,
-        &mut lowered,
-    );
+    let flips = order::list_flips(file, m as usize, &mut columns, ones, zeros);
     let answer = Answer {
         n,
         m,
@@ -75,54 +64,90 @@ fn write_answer(
         taxa,
         costs,
     };
-    let written = answer::write(answer, &columns, &raised, &lowered, out);
+    let written = answer::write(answer, &columns, ones, zeros, out);
     match written {
         Written::Length(size) => Built::Taken(size, total),
         Written::Refused(why) => Built::Refused(why),
     }
 }
 
-// A matrix that nothing refuses, built; the slices are room for the file's columns, before and after.
-fn build_loaded(
-    file: &[u8],
-    weights: &mut [u16],
-    ones: &mut [u64],
-    zeros: &mut [u64],
-    after: &mut [u64],
-    off: &mut [u64],
-    n: u16,
-    m: u16,
+// The walk from all taxa. The lists of the search and of the parts stand only while the tree grows. Returns how many groups there are.
+fn grow_all(
+    weights: &[u16],
+    ones: &mut [u64; 256],
+    zeros: &mut [u64; 256],
+    n: usize,
     workspace: &mut [i32],
-    out: &mut [u8],
-) -> Built
+    walked: &mut [u64; 63],
+    paid: &mut [u32; 63],
+) -> usize
     requires { ⌜
-        Buildable (now file) n m (length (now workspace)) (length (now out))
-        × Slices m (now weights) (now ones) (now zeros) (now after) (now off) ⌝ }
+        Ready (now weights) (entriesFor (now weights) (now ones)) (entriesFor (now weights) (now zeros)) (all n) n (now workspace)
+        × LentLists (now ones) (now zeros) (now walked) (now paid) ⌝ }
+    requires { ⌜
+        Room (length (walkFrom (now weights) (entriesFor (now weights) (now ones)) (entriesFor (now weights) (now zeros)) (all n) .groups))
+        (now walked) (now paid) ⌝ }
+    ensures { λ r. ⌜
+        Grown (now (weights .entry)) (entriesFor (now (weights .entry)) (now (ones .exit))) (entriesFor (now (weights .entry)) (now (zeros .exit)))
+        (now (workspace .entry)) (now (workspace .exit))
+        (walkFrom (now (weights .entry)) (entriesFor (now (weights .entry)) (now (ones .entry))) (entriesFor (now (weights .entry)) (now (zeros .entry))) (all n))
+        (firstGroups (now (walked .entry)) (now (paid .entry)) 0) (firstGroups (now (walked .exit)) (now (paid .exit)) r) 0 r
+        × LentLists (now (ones .exit)) (now (zeros .exit)) (now (walked .exit)) (now (paid .exit)) ⌝ }
+{
+    let mut list = [0u64; 128];
+    let mut joined = [0u64; 256];
+    let mut limits = [0u32; 256];
+    let mut used = [0u32; 256];
+    let mut tree = [0u32; 256];
+    grow::grow(
+        weights,
+        ones,
+        zeros,
+        workspace,
+        n,
+        taxa::all(n as u32),
+        &mut list,
+        walked,
+        paid,
+        &mut joined,
+        &mut limits,
+        &mut used,
+        &mut tree,
+        0,
+    )
+}
+
+// A matrix that nothing refuses, built: its columns are loaded and flipped as the tree grows, and what they were is read from the file again.
+fn build_loaded(file: &[u8], n: u16, m: u16, workspace: &mut [i32], out: &mut [u8]) -> Built
+    requires { ⌜ Buildable (now file) n m (length (now workspace)) (length (now out)) ⌝ }
     ensures { λ r. ⌜
         (r ≡ takenOf (now (file .entry)))
         × (now (out .exit) ≡ over (fileOf (contentFor (matrixIn (now (file .entry))))) 0 (now (out .entry)))
         × (now (workspace .exit) ≡ cleared (n * m) (now (workspace .entry))) ⌝ }
 {
-    columns::load(file, weights, ones, zeros);
-    columns::load(file, weights, after, off);
-    let size = n as usize * m as usize;
-    net::clear(workspace, size);
-    let mut list = [0u64; 128];
+    let columns = m as usize;
+    let mut weights = [0u16; 256];
+    let mut ones = [0u64; 256];
+    let mut zeros = [0u64; 256];
+    columns::load(
+        file,
+        &mut weights[..columns],
+        &mut ones[..columns],
+        &mut zeros[..columns],
+    );
+    net::clear(workspace, n as usize * columns);
     let mut walked = [0u64; 63];
     let mut paid = [0u32; 63];
-    let k = grow::grow(
-        weights,
-        after,
-        off,
-        workspace,
+    let k = grow_all(
+        &weights[..columns],
+        &mut ones,
+        &mut zeros,
         n as usize,
-        taxa::all(n as u32),
-        &mut list,
+        workspace,
         &mut walked,
         &mut paid,
-        0,
     );
-    write_answer(ones, zeros, after, off, n, m, &walked, &paid, k, out)
+    write_answer(file, &mut ones, &mut zeros, n, m, &walked, &paid, k, out)
 }
 
 // A matrix that is taken: the refusals of the workspace and of the output, and else the build.
@@ -146,23 +171,7 @@ fn build_matrix(file: &[u8], n: u16, m: u16, workspace: &mut [i32], out: &mut [u
             place: 0,
         });
     }
-    let mut weights = [0u16; 256];
-    let mut ones = [0u64; 256];
-    let mut zeros = [0u64; 256];
-    let mut after = [0u64; 256];
-    let mut off = [0u64; 256];
-    build_loaded(
-        file,
-        &mut weights[..columns],
-        &mut ones[..columns],
-        &mut zeros[..columns],
-        &mut after[..columns],
-        &mut off[..columns],
-        n,
-        m,
-        workspace,
-        out,
-    )
+    build_loaded(file, n, m, workspace, out)
 }
 
 // The operation "build".

@@ -2,14 +2,15 @@
 ghost use mathlib.Core.Path.{_≡_};
 ghost use mathlib.Core.Bool.{true, cond};
 ghost use mathlib.Core.List.{[], _∷_, _++_};
-ghost use Prim.Native.Nat.{_+_, _≤_, _<_};
+ghost use Prim.Native.Nat.{_+_, _*_, _≤_, _<_};
 ghost use lib.Dec.{eqb};
 ghost use lib.ListN.{length, getD};
 ghost use Rattle.taxa.specs.Sum.{sum};
 ghost use Rattle.taxa.specs.Sets.{low};
-ghost use Rattle.method.specs.Tree.{kept, ordered, flipList};
+ghost use Rattle.method.specs.Tree.{column, kept, ordered, flipList};
+ghost use Rattle.split.specs.Columns.{matrixIn};
 ghost use Rattle.tree.specs.Lists as lists;
-ghost use Rattle.tree.specs.Lists.{firstGroups, startsAt, Room, firstFlips, FlipRoom, unweighed};
+ghost use Rattle.tree.specs.Lists.{firstGroups, startsAt, Room, firstFlips, FlipRoom, SameFrom, unweighed};
 
 // One group more, where a test holds. Returns how many there are then.
 pub fn put_group(
@@ -113,6 +114,7 @@ fn put_flips(
         firstFlips (now (columns .exit)) (now (raised .exit)) (now (lowered .exit)) r
         ≡ firstFlips (now (columns .entry)) (now (raised .entry)) (now (lowered .entry)) at
         ++ cond (lists.unflipped up down) [] (record { column = column; raised = up; lowered = down } ∷ []) ⌝ }
+    ensures rest { λ r. ⌜ SameFrom (at + 1) (now (raised .entry)) (now (raised .exit)) × SameFrom (at + 1) (now (lowered .entry)) (now (lowered .exit)) ⌝ }
 {
     if unflipped(up, down) {
         return at;
@@ -123,33 +125,30 @@ fn put_flips(
     at + 1
 }
 
-// The flips of the columns that have any, from their entries before and after, by rising column. Returns how many there are.
+// The flips of the columns that have any, from a file's columns and what became of them, by rising column. They are put where these stand: a column's
+// flips go to its own place or to one before it. Returns how many there are.
 pub fn list_flips(
-    ones: &[u64],
-    zeros: &[u64],
-    after: &[u64],
-    off: &[u64],
+    file: &[u8],
     m: usize,
     columns: &mut [u64],
-    raised: &mut [u64],
-    lowered: &mut [u64],
+    ones: &mut [u64],
+    zeros: &mut [u64],
 ) -> usize
     requires { ⌜
-        (m ≤ length (now ones))
-        × (m ≤ length (now zeros))
-        × (m ≤ length (now after))
-        × (m ≤ length (now off))
-        × FlipRoom m (now columns) (now raised) (now lowered) ⌝ }
-    ensures size { λ r. ⌜ r ≡ length (flipList m (unweighed (now (ones .entry)) (now (zeros .entry))) (unweighed (now (after .entry)) (now (off .entry)))) ⌝ }
+        (m ≡ length (matrixIn (now file) .columns))
+        × (12 + 22 * m ≤ length (now file))
+        × FlipRoom m (now columns) (now ones) (now zeros) ⌝ }
+    ensures size { λ r. ⌜ r ≡ length (flipList m (column (matrixIn (now (file .entry)) .columns)) (unweighed (now (ones .entry)) (now (zeros .entry)))) ⌝ }
     ensures list { λ r. ⌜
-        firstFlips (now (columns .exit)) (now (raised .exit)) (now (lowered .exit)) r
-        ≡ flipList m (unweighed (now (ones .entry)) (now (zeros .entry))) (unweighed (now (after .entry)) (now (off .entry))) ⌝ }
+        firstFlips (now (columns .exit)) (now (ones .exit)) (now (zeros .exit)) r
+        ≡ flipList m (column (matrixIn (now (file .entry)) .columns)) (unweighed (now (ones .entry)) (now (zeros .entry))) ⌝ }
 {
     let mut end = 0;
     for c in 0usize..m {
-        let up = taxa::common(zeros[c], after[c]);
-        let down = taxa::common(ones[c], off[c]);
-        end = put_flips(columns, raised, lowered, end, c as u64, up, down);
+        let before = matrix::column_in(file, c);
+        let up = taxa::common(before.zeros, ones[c]);
+        let down = taxa::common(before.ones, zeros[c]);
+        end = put_flips(columns, ones, zeros, end, c as u64, up, down);
     }
     end
 }

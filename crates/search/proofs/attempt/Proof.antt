@@ -2,54 +2,59 @@
 use borrow.Author.Needs.{needs}
 use borrow.Author.Tests.{not-true, not-false}
 use native.Mathlib.Omega.{arith}
-use mathlib.Core.Path.{sym, _∙_}
+use mathlib.Core.Path.{_≡_, sym, _∙_}
+use mathlib.Core.Bool.{true}
 use Prim.Native.Nat.{_*_}
+use Rattle.taxa.specs.Sets.{has}
 use Rattle.search.proofs.Workspace.{kept-none}
 use Rattle.search.proofs.Group.{tried-skip, tried-better, tried-worse}
 use Rattle.search.proofs.attempt.Statement.{statement}
 use Rattle.search.proofs.attempt.Tie as tie
 
-cast-contains : tie.Need-cast-contains
-cast-contains c = search needs
-
-contains-requires : tie.Need-contains-requires
-contains-requires c κs = search needs
-
 returns : tie.Need-returns
 returns c =
     let a = c .before .before .before .args in
-    (tried-skip (c .before .before .before .pre .4) (sym (c .before .contains .ensures) ∙ not-true (c .before .contains .result) (c .if1 .taken)), kept-none (a .n * a .m) (a .ws .now))
+    (tried-skip (c .before .before .before .pre .4) (sym (c .before .contains .ensures) ∙ not-true (c .before .contains .result) (c .if1 .taken)), kept-none (a .n * a .m) (a .ws .now), c .before .before .before .pre .5)
+
+-- The way back to the start, and that u is in the group.
+abbrev begun : tie.Else1 → tie.Start
+begun c = c .before .before .before
+
+in-group : (c : tie.Else1) → has (begun c .args .group) (begun c .args .u) ≡ true
+in-group c = sym (c .before .contains .ensures) ∙ not-false (c .before .contains .result) (c .if1 .left)
 
 largest-requires : tie.Need-largest-requires
-largest-requires c κs = search needs
+largest-requires c κs =
+    let p = begun (c .before .before .before) .pre in
+    (p .0, p .1, omega (arith, p .2, p .3), p .3, λ e. omega (arith, p .2), p .5)
 
-same-length : tie.Need-same-length
-same-length c = search needs
+-- The way back from the flow.
+abbrev flowed : tie.After-largest → tie.Else1
+flowed c = c .before .before .before .before
 
 returns-2 : tie.Need-returns-2
 returns-2 c =
-    let p = c .before .before .before .before .before .before .before .before .before .pre in
-    let l = c .before .before .before .before .largest .ensures in
-    (tried-better (p .4) (omega arith) (l .0) (sym (c .before .before .before .before .before .before .before .contains .ensures) ∙ not-false (c .before .before .before .before .before .before .before .contains .result) (c .before .before .before .before .before .before .if1 .left)) (omega arith), l .1)
-
-same-length-2 : tie.Need-same-length-2
-same-length-2 c = search needs
+    let f = c .before .before .before .before in
+    let p = begun (flowed f) .pre in
+    let l = f .largest .ensures in
+    (tried-better (p .4) (omega (arith, p .2, p .3)) (l .0) (in-group (flowed f)) (omega arith), l .1, l .2)
 
 returns-3 : tie.Need-returns-3
 returns-3 c =
-    let p = c .before .before .before .before .before .before .before .before .before .pre in
-    let l = c .before .before .before .before .largest .ensures in
-    (tried-worse (p .4) (omega arith) (l .0) (omega arith), l .1)
+    let f = c .before .before .before .before in
+    let p = begun (flowed f) .pre in
+    let l = f .largest .ensures in
+    (tried-worse (p .4) (omega (arith, p .2, p .3)) (l .0) (omega arith), l .1, l .2)
 
 pub attempt-spec : {M : Type 1} → statement M
 attempt-spec =
     tie.close
     (tie.spec
-    cast-contains
-    contains-requires
+    (λ c. search needs)
+    (λ c κs. search needs)
     returns
     largest-requires
-    same-length
+    (λ c. search needs)
     returns-2
-    same-length-2
+    (λ c. search needs)
     returns-3)

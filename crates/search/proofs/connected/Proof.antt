@@ -1,7 +1,7 @@
 -- `search::connected` meets its contract: it reaches past no flow.
 use borrow.Author.Needs.{needs}
 use mathlib.Core.Bool.{true≢false}
-use mathlib.Core.Path.{refl, sym, _∙_}
+use mathlib.Core.Path.{sym, _∙_}
 use Rattle.taxa.proofs.Digits.{has-none}
 use Rattle.search.proofs.Flows.{no-ready}
 use Rattle.search.proofs.connected.Statement.{statement}
@@ -13,10 +13,16 @@ mul-clear c = search needs
 clear-requires : tie.Need-clear-requires
 clear-requires c κs = search needs
 
+unused-requires : tie.Need-unused-requires
+unused-requires c κs = search needs
+
 reach-requires : tie.Need-reach-requires
 reach-requires c κs =
-    let p = c .before .before .before .before .before .before .before .pre in
-    (rw (c .before .before .before .before .clear .ensures) (no-ready (p .0) (c .before .before .before .before .before .before .before .args .ws .now) (p .1)), refl, p .2)
+    let unused = c .before .before .before in
+    let clear = unused .before .before .before in
+    let start = clear .before .before .before in
+    let p = start .pre in
+    (rw (clear .clear .ensures) (no-ready (p .0) (start .args .ws .now) (p .1) (unused .unused .ensures)), p .3 .tree, p .2)
 
 same-length : tie.Need-same-length
 same-length c = search needs
@@ -24,7 +30,11 @@ same-length c = search needs
 returns : tie.Need-returns
 returns c =
     let f = c .reach .ensures in
-    (record { low = f .tree .low; all = f .all (record { none = λ x h. absurd (true≢false (sym h ∙ has-none x)) }) }, c .before .before .before .before .before .clear .ensures)
+    let unused = c .before .before .before .before in (
+      record { low = f .0 .tree .low; all = f .0 .all (record { none = λ x h. absurd (true≢false (sym h ∙ has-none x)) }) },
+      unused .before .before .before .clear .ensures,
+      record { counts = unused .unused .ensures .long; tree = f .1 },
+    )
 
 pub connected-spec : {M : Type 1} → statement M
-connected-spec = tie.close (tie.spec mul-clear clear-requires reach-requires same-length returns)
+connected-spec = tie.close (tie.spec mul-clear clear-requires unused-requires reach-requires same-length returns)

@@ -2,12 +2,13 @@
 use borrow.Author.Needs.{needs}
 use native.Mathlib.Omega.{arith}
 use mathlib.Core.Path.{_≡_, sym, _∙_}
-use Prim.Native.Nat.{_<_, _*_}
+use mathlib.Core.List.{List}
+use Prim.Native.Nat.{ℕ, _<_, _*_}
 use Rattle.taxa.specs.Sets.{low}
 use Rattle.taxa.proofs.Counts.{count-pos}
 use Rattle.taxa.proofs.Members.{below, low-width}
 use Rattle.search.specs.Workspace.{Kept}
-use Rattle.search.specs.Network.{Net}
+use Rattle.search.specs.Network.{Net, Spare, Lent}
 use Rattle.search.proofs.Workspace.{cleared-kept, kept-then}
 use Rattle.search.proofs.Group.{parted-off, net, stands, divided, divided-free}
 use Rattle.search.proofs.divide.Statement.{statement}
@@ -16,13 +17,13 @@ use Rattle.search.proofs.divide.Tie as tie
 -- ---- the way back from each call to the one before it
 
 abbrev begun : tie.After-lowest → tie.Start
-begun c = c .before .before .before .before .before .before
+begun c = c .before .before .before .before .before .before .before
 
 abbrev lowest-found : tie.After-connected → tie.After-lowest
-lowest-found c = c .before .before .before .before
+lowest-found c = c .before .before .before .before .before .before
 
 abbrev connected : tie.After-cheapest → tie.After-connected
-connected c = c .before .before .before .before .before .before .before
+connected c = c .before .before .before .before .before .before .before .before .before
 
 -- ---- s, the network and the workspace
 
@@ -32,56 +33,46 @@ is-low c = let g = begun c .pre .0 in c .lowest .ensures .0 ∙ sym (low-width (
 source : (c : tie.After-lowest) → c .lowest .result < begun c .args .n
 source c = below (begun c .args .n) (begun c .pre .0 .group) (c .lowest .ensures .2)
 
-network : (c : tie.After-lowest) → let a = begun c .args in Net (a .weights .now) (c .before .before .joined-of .result) (c .before .limits-of .result) (a .n) (a .m)
-network c = net (begun c .pre .0) (c .before .before .joined-of .ensures) (c .before .limits-of .ensures) (λ k b. omega (arith, c .before .before .before .before .before .shared-slice-known .given k))
+network : (c : tie.After-lowest) →
+    let a = begun c .args in
+    Net (a .weights .now) (c .before .network-of .last .1 .1 .1 .1 .1 .0) (c .before .network-of .last .1 .1 .1 .1 .1 .1 .0) (a .n) (a .m)
+network c =
+    let made = c .before .network-of .ensures in
+    net (begun c .pre .0) (made .0) (made .1) (λ k b. omega (arith, c .before .before .before .before .before .before .shared-slice-known .given k))
+
+-- The lent lists, with room as before.
+lent : (c : tie.After-lowest) {U Y : List ℕ} → Spare U Y → Lent (c .before .network-of .last .1 .1 .1 .1 .1 .0) (c .before .network-of .last .1 .1 .1 .1 .1 .1 .0) U Y
+lent c s = let made = c .before .network-of .ensures in record { joins = made .0 .long; limits = made .1 .long; spare = s }
 
 emptied : (c : tie.After-connected) → let a = begun (lowest-found c) .args in Kept (a .n * a .m) (a .ws .now) (c .connected .last .1 .1 .1 .1 .1 .0)
 emptied c = let start = begun (lowest-found c) in cleared-kept (start .args .ws .now) (c .connected .ensures .1) (start .pre .1)
 
 -- ---- what the calls ask for
 
-joined-of-requires : tie.Need-joined-of-requires
-joined-of-requires c κs = search needs
-
-limits-of-requires : tie.Need-limits-of-requires
-limits-of-requires c κs = search needs
+network-of-requires : tie.Need-network-of-requires
+network-of-requires c κs = let p = c .before .before .before .before .before .pre in (p .0 .columns, p .0 .weights, p .0 .ones, p .0 .zeros, p .2 .joins, p .2 .limits)
 
 lowest-requires : tie.Need-lowest-requires
-lowest-requires c κs = let start = c .before .before .before .before .before in count-pos (start .args .n) (omega (arith, start .pre .0 .two))
-
-cast-s : tie.Need-cast-s
-cast-s c = search needs
+lowest-requires c κs = let start = c .before .before .before .before .before .before in count-pos (start .args .n) (omega (arith, start .pre .0 .two))
 
 connected-requires : tie.Need-connected-requires
-connected-requires c κs = let l = c .before .before .before in (network l, begun l .pre .1, source l)
-
-difference-requires : tie.Need-difference-requires
-difference-requires c κs = search needs
-
-lowest-requires-2 : tie.Need-lowest-requires-2
-lowest-requires-2 c κs = search needs
-
-cast-t24 : tie.Need-cast-t24
-cast-t24 c = search needs
+connected-requires c κs = let l = c .before .before .before .before .before in (network l, begun l .pre .1, source l, begun l .pre .2 .spare)
 
 cheapest-requires : tie.Need-cheapest-requires
 cheapest-requires c κs =
-    let met = c .before .before .before .before .before .before in
+    let met = c .before .before .before .before .before .before .before .before in
     let l = lowest-found met in
     let p = begun l .pre in
-    (network l, omega (arith, p .1, emptied met .long), p .0 .group, p .0 .two, is-low l)
+    (network l, omega (arith, p .1, emptied met .long), p .0 .group, p .0 .two, is-low l, met .connected .ensures .2)
 
 largest-requires : tie.Need-largest-requires
 largest-requires c κs =
-    let least = c .before .before .before .before in
+    let least = c .before .before .before .before .before .before in
     let l = lowest-found (connected least) in
     let r = least .cheapest .ensures in
-    (network l, omega (arith, begun l .pre .1, emptied (connected least) .long, r .1 .long), source l, r .0 .below, λ e. parted-off (r .0) e)
+    (network l, omega (arith, begun l .pre .1, emptied (connected least) .long, r .1 .long), source l, r .0 .below, λ e. parted-off (r .0) e, r .2)
 
 -- ---- what comes back
-
-same-length : tie.Need-same-length
-same-length c = search needs
 
 -- The group is in parts already, or
 returns : tie.Need-returns
@@ -91,39 +82,36 @@ returns c =
     let l = lowest-found met in
     let a = begun l .args in
     let p = begun l .pre in (
-      divided-free (p .0) (l .before .before .joined-of .ensures) (l .before .limits-of .ensures) (a .ws .now) (network l) (p .1) (is-low l) (d .0) (d .1) (c .before .before .difference .ensures) (c .lowest2 .ensures .0) (c .lowest2 .ensures .2),
+      divided-free (p .0) (l .before .network-of .ensures .0) (l .before .network-of .ensures .1) (a .ws .now) (network l) (p .1) (is-low l) (d .0) (d .1) (c .before .before .difference .ensures) (c .lowest2 .ensures .0) (c .lowest2 .ensures .2),
       emptied met,
+      lent l (d .2),
     )
-
-same-length-2 : tie.Need-same-length-2
-same-length-2 c = search needs
 
 -- the flow to the taxon that is parted for the least was run last.
 returns-2 : tie.Need-returns-2
 returns-2 c =
-    let least = c .before .before .before .before .before .before in
+    let least = c .before .before .before .before .before .before .before .before in
     let r = least .cheapest .ensures in
     let l = lowest-found (connected least) in
     let f = c .before .largest .ensures in (
-      divided (begun l .pre .0) (l .before .before .joined-of .ensures) (l .before .limits-of .ensures) (rw (is-low l) at (r .0)) (rw (is-low l) at (stands (source l) (f .0) (omega (arith, f .0 .small)))),
+      divided (begun l .pre .0) (l .before .network-of .ensures .0) (l .before .network-of .ensures .1) (rw (is-low l) at (r .0)) (rw (is-low l) at (stands (source l) (f .0) (omega (arith, f .0 .small)))),
       kept-then (emptied (connected least)) (kept-then (r .1) (f .1)),
+      lent l (f .2),
     )
 
 pub divide-spec : {M : Type 1} → statement M
 divide-spec =
     tie.close
     (tie.spec
-    joined-of-requires
-    limits-of-requires
+    network-of-requires
     lowest-requires
-    cast-s
+    (λ c. search needs)
     connected-requires
-    difference-requires
-    lowest-requires-2
-    cast-t24
-    same-length
+    (λ c κs. search needs)
+    (λ c κs. search needs)
+    (λ c. search needs) (λ c. search needs)
     returns
     cheapest-requires
     largest-requires
-    same-length-2
+    (λ c. search needs)
     returns-2)

@@ -1,7 +1,7 @@
 -- `split::split_loaded` meets its contract: the file's columns are loaded, and the method's split of them is the file's.
 use borrow.Author.Needs.{needs}
 use native.Mathlib.Omega.{arith}
-use mathlib.Core.Path.{_∙_}
+use mathlib.Core.Path.{refl, _∙_}
 use Rattle.record.specs.Bytes.{File}
 use Rattle.split.proofs.Soundness.{can-load}
 use Rattle.split.proofs.Dividing.{t-small}
@@ -15,7 +15,7 @@ bytes c = record { byte = λ i. omega (arith, c .shared-slice-known .given i) }
 
 -- The way back: from the division to the loading, and from there to what is known of the file.
 abbrev loading : tie.After-divide → tie.After-load
-loading c = c .before .before .before .before .before .before .before .before .before .before .before
+loading c = c .before .before .before .before .before .before .before .before .before .before .before .before .before .before .before
 
 abbrev entry : tie.After-load → tie.After-shared-slice-known
 entry c = c .before .before .before .before .before .before .before
@@ -29,25 +29,13 @@ load-requires c κs =
 
 divide-requires : tie.Need-divide-requires
 divide-requires c κs =
-    let load = c .before .before .before .before .before .before .before .before .before .before in
+    let load = c .before .before .before .before .before .before .before .before .before .before .before .before .before .before in
     let at = entry load in
     let pre = at .before .pre in
-    (given (bytes at) (pre .0) (load .load .ensures .1) (load .load .ensures .2 ∙ pre .2), pre .0 .long)
+    (given (bytes at) (pre .0) (load .load .ensures .1) (load .load .ensures .2 ∙ pre .2), pre .0 .long, record { joins = refl; limits = refl; spare = record { counts = refl; tree = refl } })
 
-cast-t25 : tie.Need-cast-t25
-cast-t25 c = omega (arith, t-small (c .before .before .divide .ensures .0))
-
-same-length : tie.Need-same-length
-same-length c = search needs
-
-same-length-2 : tie.Need-same-length-2
-same-length-2 c = search needs
-
-same-length-3 : tie.Need-same-length-3
-same-length-3 c = search needs
-
-same-length-4 : tie.Need-same-length-4
-same-length-4 c = search needs
+cast-t33 : tie.Need-cast-t33
+cast-t33 c = omega (arith, t-small (c .before .before .divide .ensures .0))
 
 returns : tie.Need-returns
 returns c =
@@ -62,9 +50,6 @@ split-loaded-spec =
     (tie.spec
     load-requires
     divide-requires
-    cast-t25
-    same-length
-    same-length-2
-    same-length-3
-    same-length-4
+    cast-t33
+    (λ c. search needs) (λ c. search needs) (λ c. search needs) (λ c. search needs)
     returns)

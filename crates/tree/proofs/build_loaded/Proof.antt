@@ -1,129 +1,137 @@
--- `tree::build_loaded` meets its contract: the columns loaded twice, the workspace cleared, the walk from all taxa, and its answer written.
+-- `tree::build_loaded` meets its contract: the columns loaded, the workspace cleared, the walk from all taxa, and its answer written.
 use borrow.Author.Needs.{needs}
 use native.Mathlib.Omega.{arith}
-use mathlib.Core.Path.{refl, sym, _∙_}
+use mathlib.Core.Path.{_≡_, refl, sym, _∙_}
+use mathlib.Core.List.{List, _++_}
+use Prim.Native.Nat.{ℕ, _≤_}
+use lib.ListN.{length, take, drop, replicate}
+use lib.Seq.{length-take-le}
 use Rattle.record.specs.Bytes.{File}
-use Rattle.split.proofs.Soundness.{can-load, few-pairs, few-taxa}
-use Rattle.tree.proofs.Building.{grow-ready, list-room, grow-room, to-write, built-content, answers-all}
+use Rattle.method.specs.Tree.{column}
+use Rattle.search.specs.Search.{colsOf}
+use Rattle.split.specs.Columns.{matrixIn}
+use Rattle.tree.specs.Grow.{entriesFor}
+use Rattle.split.proofs.Soundness.{can-load, few-columns, few-pairs}
+use Rattle.tree.proofs.Building.{front-fits, still-long, lent-columns, lent-ready, lent-room, to-write, built-content, answers-all}
 use Rattle.tree.proofs.build_loaded.Statement.{statement}
 use Rattle.tree.proofs.build_loaded.Tie as tie
 
 -- ---- the way back from each call to the one before it
 
-abbrev begun : tie.After-load-arg3 → tie.Start
-begun c = c .before .before .before .before .before .before .before .before .before .before
+abbrev begun : tie.After-slice-known → tie.Start
+begun c = c .before .before
 
-abbrev loaded : tie.After-load-arg6 → tie.After-load
-loaded c = c .before .before .before .before .before .before .before .before .before
+abbrev empty : tie.After-load → tie.After-slice-known
+empty c = c .before .before .before .before
 
-abbrev loaded-again : tie.After-clear-arg → tie.After-load2
-loaded-again c = c .before .before .before .before .before .before .before
+abbrev loaded : tie.After-clear → tie.After-load
+loaded c = c .before .before .before .before .before
 
-abbrev cleared : tie.After-paid → tie.After-clear
-cleared c = c .before .before .before .before .before .before .before .before .before
+abbrev cleared : tie.After-grow-all → tie.After-clear
+cleared c = c .before .before .before .before .before .before .before .before
 
-abbrev walked : tie.After-write-answer-arg5 → tie.After-grow
-walked c = c .before .before .before .before .before .before .before .before .before .before .before .before .before .before .before
+abbrev grown : tie.After-write-answer → tie.After-grow-all
+grown c = c .before .before .before .before .before .before .before
 
--- The file is one of bytes.
-bytes : (c : tie.After-load-arg3) → File (begun c .args .file .now)
-bytes c = record { byte = λ i. omega (arith, c .before .before .before .before .before .before .before .before .before .shared-slice-known .given i) }
+-- The file is one of bytes, and the arrays have room for its columns.
+bytes : (c : tie.After-slice-known) → File (begun c .args .file .now)
+bytes c = record { byte = λ i. omega (arith, c .before .shared-slice-known .given i) }
+
+m-fits : (c : tie.After-slice-known) → begun c .args .m ≤ 256
+m-fits c = few-columns (bytes c) (begun c .pre .taken)
 
 -- ---- what the calls ask for
 
 load-requires : tie.Need-load-requires
 load-requires c κs =
-    let (b, s) = begun c .pre in
-    let fits = can-load (bytes c) (b .taken) (s .weights-all) in
-    (record { ones = s .ones-all ∙ sym (s .weights-all); zeros = s .zeros-all ∙ sym (s .weights-all) }, fits .0, fits .1)
+    let at = c .before .before .before in
+    let long = length-take-le _ _ (m-fits at) in
+    let fits = can-load (bytes at) (begun at .pre .taken) long in
+    (record { ones = length-take-le _ _ (m-fits at) ∙ sym long; zeros = length-take-le _ _ (m-fits at) ∙ sym long }, fits .0, fits .1)
 
-load-requires-2 : tie.Need-load-requires-2
-load-requires-2 c κs =
-    let (b, s) = begun (loaded c .before) .pre in
-    let long = loaded c .load .ensures .2 ∙ s .weights-all in
-    let fits = can-load (bytes (loaded c .before)) (b .taken) long in
-    (record { ones = s .after-all ∙ sym long; zeros = s .off-all ∙ sym long }, fits .0, fits .1)
+-- What was loaded.
+loaded-all : (c : tie.After-load) → length (c .load .last .1 .0) ≡ begun (empty c) .args .m
+loaded-all c = c .load .ensures .2 ∙ length-take-le _ _ (m-fits (empty c))
 
-mul-size : tie.Need-mul-size
-mul-size c =
-    let first = loaded (c .before .before .before .before .before .before .before) .before in
-    omega (arith, few-pairs (bytes first) (begun first .pre .0 .taken))
-
-all-requires : tie.Need-all-requires
-all-requires c κs =
-    let clear = c .before .before .before .before .before in
-    let first = loaded (loaded-again (clear .before) .before) .before in
-    few-taxa (bytes first) (begun first .pre .0 .taken)
-
-grow-requires : tie.Need-grow-requires
-grow-requires c κs =
-    let clear = cleared c .clear in
-    let again = loaded-again (cleared c .before) in
-    let load = loaded (again .before) in
-    let (b, s) = begun (load .before) .pre in
-    let f = bytes (load .before) in
-    let long = again .load2 .ensures .2 ∙ load .load .ensures .2 ∙ s .weights-all in
-    rw (c .before .before .before .all .ensures) (
-      (grow-ready f b _ (again .load2 .ensures .1) long (clear .ensures) (clear .kept .0), list-room f b _ (search needs)),
-      grow-room f b (again .load2 .last .1 .0) (again .load2 .last .1 .1 .0) (again .load2 .last .1 .1 .1 .0) long (search needs) (search needs),
+grow-all-requires : tie.Need-grow-all-requires
+grow-all-requires c κs =
+    let clear = c .before .before .before .before .before .before .before in
+    let load = loaded clear in
+    let f = bytes (empty load) in
+    let b = begun (empty load) .pre in
+    let l = load .load in
+    let sized = loaded-all load in (
+      (
+        lent-ready f b (l .last .1 .0) (l .last .1 .1 .0) (l .last .1 .1 .1 .0) _ _ _ (l .ensures .1) sized _ (clear .clear .ensures) (clear .clear .kept .0),
+        record {
+          ones = still-long (l .last .1 .1 .0) _ (l .ensures .1 .ones ∙ sized) (m-fits (empty load));
+          zeros = still-long (l .last .1 .1 .1 .0) _ (l .ensures .1 .zeros ∙ sized) (m-fits (empty load));
+          walked = refl;
+          paid = refl;
+        },
+      ),
+      lent-room f b (l .last .1 .0) (l .last .1 .1 .0) (l .last .1 .1 .1 .0) _ _ _ (l .ensures .1) sized refl refl,
     )
-
-write-answer-requires : tie.Need-write-answer-requires
-write-answer-requires c κs =
-    let walk = walked c .grow in
-    let again = loaded-again (cleared (walked c .before) .before) in
-    let load = loaded (again .before) in
-    let (b, s) = begun (load .before) .pre in
-    let f = bytes (load .before) in
-    let long = again .load2 .ensures .2 ∙ load .load .ensures .2 ∙ s .weights-all in
-    to-write f b _ _ _ _ _ _ _ _ _ _ _ _ _ _ (load .load .ensures .0) (again .load2 .ensures .0) long (walked c .before .before .before .before .all .ensures) (walk .ensures)
-    (load .load .kept .1 .1 .0 ∙ s .ones-all)
-    (load .load .kept .1 .1 .1 .0 ∙ s .zeros-all)
-    (walk .kept .1 .0 ∙ again .load2 .kept .1 .1 .0 ∙ s .after-all)
-    (walk .kept .1 .1 .0 ∙ again .load2 .kept .1 .1 .1 .0 ∙ s .off-all)
-    (walk .kept .1 .1 .1 .1 .1 .1 .1 .0)
-    (walk .kept .1 .1 .1 .1 .1 .1 .1 .1 .0)
 
 -- ---- what comes back
 
-abbrev end-walk : tie.After-slice-known15 → tie.After-grow
-end-walk c = walked (c .before .before .before)
+-- The columns that were loaded stand in front of zeros, and the walk from them comes to the file's answer.
+abbrev others : tie.After-load → List ℕ
+others c = drop (begun (empty c) .args .m) (replicate 256 0)
 
-abbrev end-again : tie.After-slice-known15 → tie.After-load2
-end-again c = loaded-again (cleared (end-walk c .before) .before)
+abbrev weights : tie.After-load → List ℕ
+weights c = take (begun (empty c) .args .m) (c .load .last .1 .0 ++ others c)
 
-abbrev end-load : tie.After-slice-known15 → tie.After-load
-end-load c = loaded (end-again c .before)
+abbrev ones : tie.After-load → List ℕ
+ones c = c .load .last .1 .1 .0 ++ others c
+
+abbrev zeros : tie.After-load → List ℕ
+zeros c = c .load .last .1 .1 .1 .0 ++ others c
+
+columns : (c : tie.After-load) → colsOf (weights c) (entriesFor (weights c) (ones c)) (entriesFor (weights c) (zeros c)) ≡ column (matrixIn (begun (empty c) .args .file .now) .columns)
+columns c =
+    let l = c .load in
+    lent-columns (bytes (empty c)) (begun (empty c) .pre) (l .last .1 .0) (l .last .1 .1 .0) (l .last .1 .1 .1 .0) _ _ _ (l .ensures .1) (loaded-all c) (l .ensures .0)
+
+sized : (c : tie.After-load) → length (weights c) ≡ begun (empty c) .args .m
+sized c = length-take-le _ _ (front-fits (c .load .last .1 .0) _ (loaded-all c))
+
+write-answer-requires : tie.Need-write-answer-requires
+write-answer-requires c κs =
+    let walk = c .before .before .before .before .before .before in
+    let load = loaded (cleared walk) in
+    let at = empty load in
+    let now = walk .grow-all .last in
+    to-write (bytes at) (begun at .pre) (weights load) (ones load) (zeros load) (now .1 .0) (now .1 .1 .0) _ _ _ _ _ (columns load) (sized load) (walk .grow-all .ensures .0) (walk .grow-all .ensures .1)
 
 returns : tie.Need-returns
 returns c =
-    let walk = end-walk c in
-    let again = end-again c .load2 in
-    let load = end-load c .load in
-    let (b, s) = begun (end-load c .before) .pre in
-    let f = bytes (end-load c .before) in
-    let long = again .ensures .2 ∙ load .ensures .2 ∙ s .weights-all in
-    let content = built-content f b _ _ _ _ _ _ _ _ _ _ _ _ _ _ (load .ensures .0) (again .ensures .0) long (walk .before .before .before .before .all .ensures) (walk .grow .ensures) in
-    let (taken, output) = answers-all f b content refl (c .before .before .write-answer .ensures) in
-    (taken, output, walk .grow .ensures .workspace ∙ cleared (walk .before) .clear .ensures)
+    let written = c .before .before .before .before in
+    let walk = grown written in
+    let load = loaded (cleared walk) in
+    let at = empty load in
+    let now = walk .grow-all .last in
+    let content = built-content (bytes at) (begun at .pre) (weights load) (ones load) (zeros load) (now .1 .0) (now .1 .1 .0) _ _ _ _ _ (columns load) (sized load) (walk .grow-all .ensures .0) in
+    let (taken, output) = answers-all (bytes at) (begun at .pre) content refl (written .write-answer .ensures) in
+    (taken, output, walk .grow-all .ensures .0 .workspace ∙ cleared walk .clear .ensures)
 
 pub build-loaded-spec : {M : Type 1} → statement M
 build-loaded-spec =
     tie.close
     (tie.spec
+    m-fits
+    (λ c. sym (length-take-le _ _ (m-fits (c .before))))
+    (λ c. m-fits (c .before))
+    (λ c. sym (length-take-le _ _ (m-fits (c .before .before))))
+    (λ c. m-fits (c .before .before))
+    (λ c. sym (length-take-le _ _ (m-fits (c .before .before .before))))
     load-requires
-    load-requires-2
-    mul-size
+    (λ c. let at = empty (c .before .before .before .before) in omega (arith, few-pairs (bytes at) (begun at .pre .taken)))
     (λ c κs. search needs)
-    all-requires
-    (λ c. search needs) (λ c. search needs) (λ c. search needs)
-    grow-requires
-    (λ c. search needs) (λ c. search needs)
+    (λ c. let load = loaded (c .before) in front-fits (load .load .last .1 .0) _ (loaded-all load))
+    (λ c. let load = loaded (c .before .before) in sym (length-take-le _ _ (front-fits (load .load .last .1 .0) _ (loaded-all load))))
+    grow-all-requires
+    (λ c. search needs) (λ c. search needs) (λ c. search needs) (λ c. search needs)
     write-answer-requires
-    (λ c. end-again c .load2 .kept .1 .0 ∙ end-load c .load .kept .1 .0)
-    (λ c. end-load c .load .kept .1 .1 .0)
-    (λ c. end-load c .load .kept .1 .1 .1 .0)
-    (λ c. end-walk c .grow .kept .1 .0 ∙ end-again c .load2 .kept .1 .1 .0)
-    (λ c. end-walk c .grow .kept .1 .1 .0 ∙ end-again c .load2 .kept .1 .1 .1 .0)
     (λ c. search needs) (λ c. search needs)
     returns)

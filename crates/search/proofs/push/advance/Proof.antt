@@ -3,7 +3,7 @@ use borrow.Author.Needs.{needs}
 use borrow.Author.Tests.{not-true, not-false}
 use native.Mathlib.Omega.{arith}
 use mathlib.Core.Bool.{true}
-use mathlib.Core.Path.{_≡_, refl, sym, _∙_}
+use mathlib.Core.Path.{_≡_, sym, _∙_}
 use Prim.Native.Nat.{_+_, _*_, _<_}
 use Rattle.taxa.specs.Sets.{has}
 use Rattle.search.specs.Flows.{Advanced}
@@ -14,19 +14,19 @@ use Rattle.search.proofs.push.advance.Statement.{statement}
 use Rattle.search.proofs.push.advance.Tie as tie
 
 abbrev Inv-loop : tie.InvT-loop
-Inv-loop weights joined limits n m ws₀ used₀ s t size tree goal met d j₀ ws used j =
+Inv-loop weights joined limits n m ws₀ used₀ tree s t size goal first met d j₀ ws used j =
     Under weights joined limits n m ws₀ used₀ s t size met tree d ws used j
 
 abbrev μ-loop : tie.MeasureT-loop
-μ-loop weights joined limits n m ws₀ used₀ s t size tree goal met d j₀ ws used j = turnOf tree j
+μ-loop weights joined limits n m ws₀ used₀ tree s t size goal first met d j₀ ws used j = turnOf tree j
 
 -- The way back from the test of t to the start.
 abbrev begun : tie.Else1 Inv-loop μ-loop → tie.Start Inv-loop μ-loop
-begun c = c .before .before .before .before .before .before .before .before
+begun c = c .before .before .before .before .before .before .before .before .before .before
 
 -- t is one of 64 taxa.
 t-low : (c : tie.Start Inv-loop μ-loop) → c .args .t < 64
-t-low c = omega (arith, c .pre .sink, c .pre .ready .net .taxa)
+t-low c = omega (arith, c .pre .0 .sink, c .pre .0 .ready .net .taxa)
 
 cast-single : tie.Need-cast-single Inv-loop μ-loop
 cast-single c = omega (arith, t-low (c .before))
@@ -34,25 +34,35 @@ cast-single c = omega (arith, t-low (c .before))
 single-requires : tie.Need-single-requires Inv-loop μ-loop
 single-requires c κs = omega (arith, t-low (c .before))
 
+mul-index : tie.Need-mul-index Inv-loop μ-loop
+mul-index c = omega (arith, t-low (c .before .before))
+
+add-index : tie.Need-add-index Inv-loop μ-loop
+add-index c = omega (arith, t-low (c .before .before))
+
+mul-index-2 : tie.Need-mul-index-2 Inv-loop μ-loop
+mul-index-2 c = omega (arith, t-low (c .before .before))
+
+element-copy-out-index : tie.Need-element-copy-out-index Inv-loop μ-loop
+element-copy-out-index c = omega (arith, t-low (c .before .before))
+
 reach-requires : tie.Need-reach-requires Inv-loop μ-loop
-reach-requires c κs = let p = c .before .before .before .before .before .pre in (p .ready, refl, p .source)
+reach-requires c κs = let p = c .before .before .before .before .before .before .before .pre in (p .0 .ready, p .1, p .0 .source)
 
 cast-contains : tie.Need-cast-contains Inv-loop μ-loop
-cast-contains c = omega (arith, t-low (c .before .before .before .before .before .before))
+cast-contains c = omega (arith, t-low (c .before .before .before .before .before .before .before .before))
 
 contains-requires : tie.Need-contains-requires Inv-loop μ-loop
-contains-requires c κs = omega (arith, t-low (c .before .before .before .before .before .before))
-
-same-length : tie.Need-same-length Inv-loop μ-loop
-same-length c = search needs
+contains-requires c κs = omega (arith, t-low (c .before .before .before .before .before .before .before .before))
 
 returns : tie.Need-returns Inv-loop μ-loop
 returns c =
     let contains = c .before in
     let reach = contains .before in
-    let start = c .before .before .before .before .before .before .before .before in (
-      stayed (start .pre) (reach .reach .ensures) (reach .before .before .before .before .single .ensures) (sym (contains .contains .ensures) ∙ not-true (contains .contains .result) (c .if1 .taken)),
+    let start = c .before .before .before .before .before .before .before .before .before .before in (
+      stayed (start .pre .0) (reach .reach .ensures .0) (reach .before .before .before .before .before .before .single .ensures) (sym (contains .contains .ensures) ∙ not-true (contains .contains .result) (c .if1 .taken)),
       kept-none (start .args .n * start .args .m) (start .args .ws .now),
+      reach .reach .ensures .1,
     )
 
 mul-d : tie.Need-mul-d Inv-loop μ-loop
@@ -64,96 +74,90 @@ add-d c = omega (arith, t-low (begun c))
 mul-d-2 : tie.Need-mul-d-2 Inv-loop μ-loop
 mul-d-2 c = omega (arith, t-low (begun c))
 
-array-read-d : tie.Need-array-read-d Inv-loop μ-loop
-array-read-d c = omega (arith, t-low (begun c))
+element-copy-out-d : tie.Need-element-copy-out-d Inv-loop μ-loop
+element-copy-out-d c = omega (arith, t-low (begun c))
 
 reached : (c : tie.Else1 Inv-loop μ-loop) → has (c .before .before .reach .result) (begun c .args .t) ≡ true
 reached c = sym (c .before .contains .ensures) ∙ not-false (c .before .contains .result) (c .if1 .left)
 
 loop-holds : tie.Need-loop-holds Inv-loop μ-loop
-loop-holds c = under-start (begun c .pre) (c .before .before .reach .ensures) (reached c) (omega arith)
+loop-holds c = let x = c .before in under-start (begun x .pre .0) (x .before .before .reach .ensures .0) (reached x) (omega arith)
 
-mul-loop : tie.Need-mul-loop Inv-loop μ-loop
-mul-loop c = omega (arith, under-low (c .loop .inv))
+mul-if2 : tie.Need-mul-if2 Inv-loop μ-loop
+mul-if2 c = omega (arith, under-low (c .loop .inv))
 
-add-loop : tie.Need-add-loop Inv-loop μ-loop
-add-loop c = omega (arith, under-low (c .loop .inv))
+add-if2 : tie.Need-add-if2 Inv-loop μ-loop
+add-if2 c = omega (arith, under-low (c .loop .inv))
 
-mul-loop-2 : tie.Need-mul-loop-2 Inv-loop μ-loop
-mul-loop-2 c = omega (arith, under-low (c .loop .inv))
+mul-if2-2 : tie.Need-mul-if2-2 Inv-loop μ-loop
+mul-if2-2 c = omega (arith, under-low (c .loop .inv))
 
-array-read-loop : tie.Need-array-read-loop Inv-loop μ-loop
-array-read-loop c = omega (arith, under-low (c .loop .inv))
-
-mul-index : tie.Need-mul-index Inv-loop μ-loop
-mul-index c = omega (arith, under-low (c .before .loop .inv))
-
-mul-index-2 : tie.Need-mul-index-2 Inv-loop μ-loop
-mul-index-2 c = omega (arith, under-low (c .before .loop .inv))
-
-array-read-index : tie.Need-array-read-index Inv-loop μ-loop
-array-read-index c = omega (arith, under-low (c .before .loop .inv))
-
-index-requires : tie.Need-index-requires Inv-loop μ-loop
-index-requires c κs = search needs
+element-copy-out-if2 : tie.Need-element-copy-out-if2 Inv-loop μ-loop
+element-copy-out-if2 c = omega (arith, under-low (c .loop .inv))
 
 mul-index-3 : tie.Need-mul-index-3 Inv-loop μ-loop
 mul-index-3 c = omega (arith, under-low (c .before .before .loop .inv))
 
-add-index : tie.Need-add-index Inv-loop μ-loop
-add-index c = omega (arith, under-low (c .before .before .loop .inv))
-
 mul-index-4 : tie.Need-mul-index-4 Inv-loop μ-loop
 mul-index-4 c = omega (arith, under-low (c .before .before .loop .inv))
 
-array-read-index-2 : tie.Need-array-read-index-2 Inv-loop μ-loop
-array-read-index-2 c = omega (arith, under-low (c .before .before .loop .inv))
+element-copy-out-index-2 : tie.Need-element-copy-out-index-2 Inv-loop μ-loop
+element-copy-out-index-2 c = omega (arith, under-low (c .before .before .loop .inv))
 
-index-requires-2 : tie.Need-index-requires-2 Inv-loop μ-loop
-index-requires-2 c κs = search needs
+mul-index-5 : tie.Need-mul-index-5 Inv-loop μ-loop
+mul-index-5 c = omega (arith, under-low (c .before .before .before .before .loop .inv))
+
+add-index-2 : tie.Need-add-index-2 Inv-loop μ-loop
+add-index-2 c = omega (arith, under-low (c .before .before .before .before .loop .inv))
+
+mul-index-6 : tie.Need-mul-index-6 Inv-loop μ-loop
+mul-index-6 c = omega (arith, under-low (c .before .before .before .before .loop .inv))
+
+element-copy-out-index-3 : tie.Need-element-copy-out-index-3 Inv-loop μ-loop
+element-copy-out-index-3 c = omega (arith, under-low (c .before .before .before .before .loop .inv))
 
 step-requires : tie.Need-step-requires Inv-loop μ-loop
 step-requires c κs =
-    let at = c .before .before .before .before in
-    let u = at .before .loop .inv in
-    rw (c .before .before .before .index .ensures, c .before .before .index2 .ensures) (can-hop u (not-root u (at .loop-test .taken)))
+    let at = c .before .before .before .before .before .before in
+    let u = at .before .before .loop .inv in
+    rw (c .before .before .before .before .index2 .ensures, c .before .before .index3 .ensures) (can-hop u (not-root u (at .if2 .taken)))
 
 loop-less : tie.Need-loop-less Inv-loop μ-loop
 loop-less c =
-    let at = c .before .before .before .before .before .before in
-    let u = at .before .loop .inv in
-    rw (c .before .before .before .before .before .index .ensures) (under-turn u (not-root u (at .loop-test .taken)))
+    let at = c .before .before .before .before .before .before .before .before in
+    let u = at .before .before .loop .inv in
+    rw (c .before .before .before .before .before .before .index2 .ensures) (under-turn u (not-root u (at .if2 .taken)))
 
 loop-again : tie.Need-loop-again Inv-loop μ-loop
 loop-again c =
-    let at = c .before .before .before .before .before .before in
-    let u = at .before .loop .inv in
-    let index = c .before .before .before .before .before .index .ensures in
-    let h = rw (index, c .before .before .before .before .index2 .ensures) at (c .before .step .ensures) in
-    rw index (under-step u (not-root u (at .loop-test .taken)) (h .0) (h .1) (h .2))
+    let at = c .before .before .before .before .before .before .before .before in
+    let u = at .before .before .loop .inv in
+    let index = c .before .before .before .before .before .before .index2 .ensures in
+    let h = rw (index, c .before .before .before .before .index3 .ensures) at (c .before .step .ensures) in
+    rw index (under-step u (not-root u (at .if2 .taken)) (h .0) (h .1) (h .2))
 
 -- The loop ends at s.
-ends : (c : tie.After-loop Inv-loop μ-loop) → c .before .loop .j ≡ begun (c .before .before) .args .s
-ends c = is-root (c .before .loop .inv) (omega arith)
+ends : (c : tie.Else2 Inv-loop μ-loop) → c .before .before .loop .j ≡ begun (c .before .before .before .before) .args .s
+ends c = is-root (c .before .before .loop .inv) (omega arith)
 
 -- All of the path has been pushed.
-pushed : (c : tie.After-loop Inv-loop μ-loop) →
-    let a = begun (c .before .before) .args in
-    let r = c .before .before .before .before .reach in
-    Advanced (a .weights .now) (a .joined .now) (a .limits .now) (a .n) (a .m) (c .before .loop .ws) (c .before .loop .used) (a .s) (a .t) (a .size)
+pushed : (c : tie.Else2 Inv-loop μ-loop) →
+    let a = begun (c .before .before .before .before) .args in
+    let r = c .before .before .before .before .before .before .reach in
+    Advanced (a .weights .now) (a .joined .now) (a .limits .now) (a .n) (a .m) (c .before .before .loop .ws) (c .before .before .loop .used) (a .s) (a .t) (a .size)
     (a .size + widthOf (r .last .1 .1 .1 .1 .1 .1 .1 .0) (a .t)) (r .result)
 pushed c =
-    let x = c .before .before in
-    went (rw (ends c) at (c .before .loop .inv)) (reached x) (x .before .before .reach .ensures .tree .link (begun x .args .t) (reached x) (begun x .pre .apart) .some)
+    let x = c .before .before .before .before in
+    went (rw (ends c) at (c .before .before .loop .inv)) (reached x) (x .before .before .reach .ensures .0 .tree .link (begun x .args .t) (reached x) (begun x .pre .0 .apart) .some)
 
-add-t18 : tie.Need-add-t18 Inv-loop μ-loop
-add-t18 c = omega (arith, size-small (pushed c .stage .flowing))
+add-t19 : tie.Need-add-t19 Inv-loop μ-loop
+add-t19 c = omega (arith, size-small (pushed c .stage .flowing))
 
 same-length-2 : tie.Need-same-length-2 Inv-loop μ-loop
-same-length-2 c = c .before .loop .inv .kept .long
+same-length-2 c = c .before .before .loop .inv .kept .long
 
 returns-2 : tie.Need-returns-2 Inv-loop μ-loop
-returns-2 c = (pushed c, c .before .loop .inv .kept)
+returns-2 c = (pushed c, c .before .before .loop .inv .kept, c .before .before .before .before .before .before .reach .ensures .1)
 
 pub advance-spec : {M : Type 1} → statement M
 advance-spec =
@@ -163,32 +167,37 @@ advance-spec =
     μ-loop
     cast-single
     single-requires
+    mul-index
+    add-index
+    mul-index-2
+    element-copy-out-index
+    (λ c κs. search needs)
     reach-requires
     cast-contains
     contains-requires
-    same-length
+    (λ c. search needs)
     returns
     mul-d
     add-d
     mul-d-2
-    array-read-d
+    element-copy-out-d
     loop-holds
-    mul-loop
-    add-loop
-    mul-loop-2
-    array-read-loop
-    mul-index
-    mul-index-2
-    array-read-index
-    index-requires
+    mul-if2
+    add-if2
+    mul-if2-2
+    element-copy-out-if2
     mul-index-3
-    add-index
     mul-index-4
-    array-read-index-2
-    index-requires-2
+    element-copy-out-index-2
+    (λ c κs. search needs)
+    mul-index-5
+    add-index-2
+    mul-index-6
+    element-copy-out-index-3
+    (λ c κs. search needs)
     step-requires
     loop-less
     loop-again
-    add-t18
+    add-t19
     same-length-2
     returns-2)

@@ -2,7 +2,9 @@
 use borrow.Author.Needs.{needs}
 use native.Mathlib.Omega.{arith}
 use native.Mathlib.Nat.{mul-le-mul-right}
+use mathlib.Core.Path.{_≡_}
 use Prim.Native.Nat.{_*_}
+use lib.ListN.{length}
 use Rattle.taxa.specs.Sets.{has}
 use Rattle.search.specs.Workspace.{Kept}
 use Rattle.search.specs.Flows.{Stage}
@@ -12,53 +14,58 @@ use Rattle.search.proofs.push.largest.Statement.{statement}
 use Rattle.search.proofs.push.largest.Tie as tie
 
 abbrev Inv-loop : tie.InvT-loop
-Inv-loop weights joined limits n m ws₀ s t bound used₀ cut₀ ws used cut =
-    Stage weights joined limits n m ws used s t (cut .size) (cut .side) × Kept (n * m) ws₀ ws
+Inv-loop weights joined limits n m ws₀ used₀ tree₀ s t bound cut₀ ws used tree cut =
+    Stage weights joined limits n m ws used s t (cut .size) (cut .side) × Kept (n * m) ws₀ ws × (length tree ≡ 256)
 
 abbrev μ-loop : tie.MeasureT-loop
-μ-loop weights joined limits n m ws₀ s t bound used₀ cut₀ ws used cut = rest-of (cut .size) (has (cut .side) t)
+μ-loop weights joined limits n m ws₀ used₀ tree₀ s t bound cut₀ ws used tree cut = rest-of (cut .size) (has (cut .side) t)
 
 -- The way back from the loop to the start.
 abbrev begun : tie.At-loop Inv-loop μ-loop → tie.Start Inv-loop μ-loop
-begun c = c .before .before .before .before .before .before .before .before .before
+begun c = c .before .before .before .before .before .before .before .before .before .before .before .before
 
 mul-clear : tie.Need-mul-clear Inv-loop μ-loop
 mul-clear c = let z = c .before .before .pre .0 in omega (arith, z .taxa, z .columns, mul-le-mul-right (c .before .before .args .m) (z .taxa))
 
-clear-requires : tie.Need-clear-requires Inv-loop μ-loop
-clear-requires c κs = search needs
+unused-requires : tie.Need-unused-requires Inv-loop μ-loop
+unused-requires c κs = let p = c .before .before .before .before .before .pre in (p .0 .columns, p .5 .counts)
 
 advance-requires : tie.Need-advance-requires Inv-loop μ-loop
 advance-requires c κs =
-    let start = c .before .before .before .before .before .before in
+    let unused = c .before .before .before in
+    let clear = unused .before .before .before in
+    let start = clear .before .before .before in
     let p = start .pre in
-    rw (c .before .before .before .clear .ensures) (no-flow (p .0) (start .args .ws .now) (p .1) (p .2) (p .3) (p .4))
+    (rw (clear .clear .ensures) (no-flow (p .0) (start .args .ws .now) (p .1) (unused .unused .ensures) (p .2) (p .3) (p .4)), p .5 .tree)
 
 loop-holds : tie.Need-loop-holds Inv-loop μ-loop
-loop-holds c = let a = c .before .before .before .before .before .before .before .before .args in (c .before .advance .ensures .0 .stage, kept-none (a .n * a .m) (c .before .advance .last .1 .1 .1 .1 .1 .0))
+loop-holds c =
+    let a = c .before .before .before .before .before .before .before .before .before .before .before .args in
+    let r = c .before .advance .ensures in
+    (r .0 .stage, kept-none (a .n * a .m) (c .before .advance .last .1 .1 .1 .1 .1 .0), r .2)
 
 grows-requires : tie.Need-grows-requires Inv-loop μ-loop
 grows-requires c κs = let p = begun c .pre in omega (arith, p .3, p .0 .taxa)
 
 advance-requires-2 : tie.Need-advance-requires-2 Inv-loop μ-loop
-advance-requires-2 c κs = c .before .before .before .before .loop .inv .0 .flowing
+advance-requires-2 c κs = let v = c .before .before .before .before .before .loop .inv in (v .0 .flowing, v .2)
 
 loop-less : tie.Need-loop-less Inv-loop μ-loop
 loop-less c =
-    let grows = c .before .before .before .before .before in
+    let grows = c .before .before .before .before .before .before in
     let v = grows .before .loop .cut in
     let t = begun (grows .before) .args .t in
     let r = c .before .advance2 .result in
     let h = c .before .advance2 .ensures .0 in
-    falls (v .size) (r .size) (has (v .side) t) (has (r .side) t) (grows .grows .ensures .0 (c .before .before .before .before .if1 .taken)) (h .more) (h .pushed) (size-small (h .stage .flowing))
+    falls (v .size) (r .size) (has (v .side) t) (has (r .side) t) (grows .grows .ensures .0 (c .before .before .before .before .before .if1 .taken)) (h .more) (h .pushed) (size-small (h .stage .flowing))
 
 loop-again : tie.Need-loop-again Inv-loop μ-loop
-loop-again c = let r = c .before .advance2 .ensures in (r .0 .stage, kept-then (c .before .before .before .before .before .before .loop .inv .1) (r .1))
+loop-again c = let r = c .before .advance2 .ensures in (r .0 .stage, kept-then (c .before .before .before .before .before .before .before .loop .inv .1) (r .1), r .2)
 
 kept : (c : tie.At-loop Inv-loop μ-loop) → let a = begun c .args in Kept (a .n * a .m) (a .ws .now) (c .loop .ws)
 kept c =
     let start = begun c in
-    let clear = c .before .before .before .before .before .before .clear .ensures in
+    let clear = c .before .before .before .before .before .before .before .before .before .clear .ensures in
     kept-then (cleared-kept (start .args .ws .now) clear (start .pre .1)) (kept-then (c .before .before .advance .ensures .1) (c .loop .inv .1))
 
 same-length : tie.Need-same-length Inv-loop μ-loop
@@ -66,8 +73,12 @@ same-length c = kept (c .before .before) .long
 
 returns : tie.Need-returns Inv-loop μ-loop
 returns c =
-    let v = c .before .before .loop .inv .0 in
-    (record { flow = v .flowing .flow; small = size-small (v .flowing); side = v .side; stops = c .before .grows .ensures .1 (c .if1 .left) }, kept (c .before .before))
+    let v = c .before .before .loop .inv in
+    let f = v .0 .flowing in (
+      record { flow = f .flow; small = size-small f; side = v .0 .side; stops = c .before .grows .ensures .1 (c .if1 .left) },
+      kept (c .before .before),
+      record { counts = f .ready .counts; tree = v .2 },
+    )
 
 pub largest-spec : {M : Type 1} → statement M
 largest-spec =
@@ -76,7 +87,8 @@ largest-spec =
     Inv-loop
     μ-loop
     mul-clear
-    clear-requires
+    (λ c κs. search needs)
+    unused-requires
     advance-requires
     loop-holds
     grows-requires

@@ -5,69 +5,41 @@ use mathlib.Core.Path.{_≡_, sym, ap, _∙_}
 use mathlib.Core.Bool.{true, false}
 use Prim.Native.Nat.{ℕ, _^_, _<_, min}
 use Rattle.taxa.specs.Sets.{has, _∖_}
-use Rattle.taxa.proofs.Counts.{count-le}
 use Rattle.search.specs.Network.{nth}
 use Rattle.search.specs.Reaching.{widthOf, Passed}
-use Rattle.search.proofs.Reaching.{entry, used-fits, gate-up, gate-carry, low-i, pass-start, pass-shut, pass-one, others, still-in, off-in}
+use Rattle.search.proofs.Reaching.{entry, used-fits, gate-carry, pass-start, pass-one, others, still-in, off-in}
 use Rattle.search.proofs.reach.through.Statement.{statement}
 use Rattle.search.proofs.reach.through.Tie as tie
 
 abbrev Inv-loop : tie.InvT-loop
-Inv-loop weights joined limits n m ws used tree₀ s met done i c g stamp all₀ left₀ tree all left =
-    ((x : ℕ) → has left x ≡ true → (has (nth joined c) x ≡ true) × (has all x ≡ false)) × Passed weights joined limits n m ws s met all tree done i c left
+Inv-loop weights joined limits n m ws used tree₀ s met i c g stamp all₀ left₀ tree all left =
+    ((x : ℕ) → has left x ≡ true → (has (nth joined c) x ≡ true) × (has all x ≡ false)) × Passed weights joined limits n m ws s met all tree i c left
 
 abbrev μ-loop : tie.MeasureT-loop
-μ-loop weights joined limits n m ws used tree₀ s met done i c g stamp all₀ left₀ tree all left = left
+μ-loop weights joined limits n m ws used tree₀ s met i c g stamp all₀ left₀ tree all left = left
 
 -- The way back from the loop to the gate, and to the start.
 abbrev begun : tie.After-gate-at Inv-loop μ-loop → tie.Start Inv-loop μ-loop
 begun c = c .before .before
 
 abbrev gate : tie.At-loop Inv-loop μ-loop → tie.After-gate-at Inv-loop μ-loop
-gate c = c .before .before .before .before .before .before
+gate c = c .before .before .before .before
 
 -- i is one of 64 taxa.
 i-low : (c : tie.Start Inv-loop μ-loop) → c .args .i < 64
-i-low c = omega (arith, low-i (c .pre .1), c .pre .0 .net .taxa)
+i-low c = omega (arith, c .pre .0 .net .low (c .args .c) (c .pre .2) (c .args .i) (c .pre .3), c .pre .0 .net .taxa)
 
 gate-at-requires : tie.Need-gate-at-requires Inv-loop μ-loop
 gate-at-requires c κs =
     let p = c .before .pre in
     (omega (arith, p .0 .net .columns), omega (arith, p .0 .net .weights), p .0 .net .light (c .before .args .c) (p .2), entry (p .0) (p .2) (c .before .args .i) (p .3), used-fits (p .0) (p .2))
 
-returns : tie.Need-returns Inv-loop μ-loop
-returns c =
-    let g = c .before .before in
-    let p = begun g .pre in
-    pass-shut (p .1) (begun g .args .c) (sym (gate-up (p .0) (p .2) (g .gate-at .ensures) (p .3)) ∙ c .if1 .taken)
-
-size-requires : tie.Need-size-requires Inv-loop μ-loop
-size-requires c κs = search needs
-
-add-stamp : tie.Need-add-stamp Inv-loop μ-loop
-add-stamp c = omega (arith, c .size .ensures, count-le 64 (c .before .before .before .before .before .args .done))
-
-mul-difference : tie.Need-mul-difference Inv-loop μ-loop
-mul-difference c = search needs
-
-element-copy-out-difference : tie.Need-element-copy-out-difference Inv-loop μ-loop
-element-copy-out-difference c = search needs
-
-difference-requires : tie.Need-difference-requires Inv-loop μ-loop
-difference-requires c κs = search needs
-
 loop-holds : tie.Need-loop-holds Inv-loop μ-loop
 loop-holds c =
-    let start = begun (c .before .before .before .before .before) in
+    let start = begun (c .before .before .before) in
     let a = start .args in
     let p = start .pre in
-    rw (c .difference .ensures) (off-in (nth (a .joined .now) (a .c)) (a .met), pass-start (p .1) (a .c) (p .0) (p .2))
-
-lowest-requires : tie.Need-lowest-requires Inv-loop μ-loop
-lowest-requires c κs = search needs
-
-cast-j : tie.Need-cast-j Inv-loop μ-loop
-cast-j c = search needs
+    rw (c .difference .ensures) (off-in (nth (a .joined .now) (a .c)) (a .met), pass-start (a .c) (p .0) (p .1) (p .2) (p .4))
 
 carry-to-requires : tie.Need-carry-to-requires Inv-loop μ-loop
 carry-to-requires c κs =
@@ -88,17 +60,11 @@ mul-least-2 c = omega (arith, i-low (begun (gate (c .before .before .before))))
 element-copy-out-least : tie.Need-element-copy-out-least Inv-loop μ-loop
 element-copy-out-least c = omega (arith, i-low (begun (gate (c .before .before .before))))
 
-least-requires : tie.Need-least-requires Inv-loop μ-loop
-least-requires c κs = search needs
-
 offer-requires : tie.Need-offer-requires Inv-loop μ-loop
 offer-requires c κs =
     let l = c .before .before .before .before in
     let start = begun (gate (l .before .before)) in
     (l .lowest .ensures .1, i-low start, omega (arith, start .pre .2, start .pre .0 .net .columns), l .before .before .loop .inv .1 .tree .long)
-
-rest-requires : tie.Need-rest-requires Inv-loop μ-loop
-rest-requires c κs = search needs
 
 loop-less : tie.Need-loop-less Inv-loop μ-loop
 loop-less c = c .rest .ensures .1
@@ -117,11 +83,11 @@ loop-again c =
     let q : c .rest .result ≡ v .left ∖ 2 ^ j = c .rest .ensures .0 ∙ ap (λ (y : ℕ). v .left ∖ 2 ^ y) (sym (l .ensures .0)) in
     let k = c .before .before .before .least .ensures ∙ ap (λ (x : ℕ). min x (widthOf (v .tree) (a .i))) (c .before .before .before .before .before .carry-to .ensures ∙ gate-carry (p .0) (p .2) (g .gate-at .ensures) (p .3) j (h .0)) in (
       λ x y. let z = still-in (v .left) j x (ap (λ (u : ℕ). has u x) (sym q) ∙ y) in (v .inv .0 x (z .0) .0, others o x (z .1) ∙ v .inv .0 x (z .0) .1),
-      pass-one (v .inv .1) (p .2) (p .0 .net .low (a .c) (p .2) j (h .0)) (h .1) k o q,
+      pass-one (v .inv .1) (p .2) (p .0 .net .low (a .c) (p .2) j (h .0)) (l .ensures .1) (h .1) k o q,
     )
 
-returns-2 : tie.Need-returns-2 Inv-loop μ-loop
-returns-2 c =
+returns : tie.Need-returns Inv-loop μ-loop
+returns c =
     let e : c .before .loop .left ≡ 0 = omega arith in
     rw e at (c .before .loop .inv .1)
 
@@ -132,23 +98,20 @@ through-spec =
     Inv-loop
     μ-loop
     gate-at-requires
-    returns
-    size-requires
-    add-stamp
-    mul-difference
-    element-copy-out-difference
-    difference-requires
+    (λ c κs. search needs)
+    (λ c. search needs) (λ c. search needs)
+    (λ c κs. search needs)
     loop-holds
-    lowest-requires
-    cast-j
+    (λ c κs. search needs)
+    (λ c. search needs)
     carry-to-requires
     mul-least
     add-least
     mul-least-2
     element-copy-out-least
-    least-requires
+    (λ c κs. search needs)
     offer-requires
-    rest-requires
+    (λ c κs. search needs)
     loop-less
     loop-again
-    returns-2)
+    returns)

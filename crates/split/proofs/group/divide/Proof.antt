@@ -21,7 +21,7 @@ same-length c = search needs
 returns : tie.Need-returns
 returns c =
     let found = c .before .before .before .before .divide .ensures in
-    (found-split (c .before .before .before .before .before .before .before .before .before .pre .0) (found .0), c .before .clear .ensures ∙ cleared-again (found .1))
+    (found-split (c .before .before .before .before .before .before .before .before .before .before .before .before .before .pre .0) (found .0), c .before .clear .ensures ∙ cleared-again (found .1), found .2)
 
 pub divide-spec : {M : Type 1} → statement M
 divide-spec = tie.close (tie.spec divide-requires mul-clear clear-requires same-length returns)
