@@ -1,8 +1,8 @@
 // Whole trees of 64 taxa and 256 columns: the search of each group, by plain C and, if linked, by crate `search`.
+#define _GNU_SOURCE
+#include "cases.h"
 #include "plain.h"
 #include <stdio.h>
-#include <stdlib.h>
-#include <time.h>
 
 #ifdef RATTLE
 enum { METHODS = 2 };
@@ -12,47 +12,11 @@ extern void search_group(const uint16_t *w, uint64_t, const uint64_t *ones, uint
 enum { METHODS = 1 };
 #endif
 
-enum { N = 64, M = 256 };
-static uint16_t weights[M];
 static uint64_t ones[M], zeros[M];
-static int32_t ws[N * M];
-static uint64_t state;
 static double spent[2];
 static unsigned splits;
 static int method;
 static uint64_t sum;
-
-static uint64_t rnd(void) {
-    state ^= state << 13;
-    state ^= state >> 7;
-    state ^= state << 17;
-    return state * 0x2545F4914F6CDD1Dull >> 11;
-}
-
-static double now(void) {
-    struct timespec t;
-    clock_gettime(CLOCK_MONOTONIC, &t);
-    return (double)t.tv_sec + 1e-9 * (double)t.tv_nsec;
-}
-
-static void matrix(int kind, int heavy) {
-    for (int c = 0; c < M; c++) {
-        weights[c] = (uint16_t)(heavy ? 1 + rnd() % 65535 : 1 + rnd() % 4);
-        ones[c] = zeros[c] = 0;
-        unsigned a = (unsigned)(rnd() % N), b = (unsigned)(rnd() % N);
-        if (a > b) { unsigned x = a; a = b; b = x; }
-        for (unsigned i = 0; i < N; i++) {
-            uint64_t x = rnd() % 100, one;
-            if (kind == 0) one = x < 50;                       // random
-            else if (kind == 1) one = x < 85;                  // dense
-            else if (kind == 2) one = x < 8;                   // sparse
-            else one = (a <= i && i <= b) != (x < 5);          // interval-like
-            int known = kind == 2 ? rnd() % 100 < 40 || one : rnd() % 100 < 95;
-            if (!known) continue;
-            if (one) ones[c] |= 1ull << i; else zeros[c] |= 1ull << i;
-        }
-    }
-}
 
 static Split search(uint64_t group) {
     double at = now();
@@ -93,16 +57,17 @@ static void tree(uint64_t S) {
 }
 
 int main(void) {
-    static const char *names[] = {"random", "dense", "sparse", "interval"};
-    for (int kind = 0; kind < 4; kind++) for (int heavy = 0; heavy < 2; heavy++) {
+    for (int k = 0; k < CASES; k++) {
         uint64_t sums[2] = {0, 0};
         for (method = 0; method < METHODS; method++) {
-            state = 88172645463325252ull + (uint64_t)kind; sum = 0; splits = 0; spent[method] = 0;
-            matrix(kind, heavy);
+            sum = 0; splits = 0; spent[method] = 0;
+            make_case(k);
+            memcpy(ones, ones0, sizeof ones);
+            memcpy(zeros, zeros0, sizeof zeros);
             tree(~0ull);
             sums[method] = sum;
         }
-        printf("%-9s %-6s %3u splits  plain C %.3f s", names[kind], heavy ? "heavy" : "light", splits, spent[0]);
+        printf("%-9s %-6s %3u splits  plain C %.3f s", kind_name(k), weight_name(k), splits, spent[0]);
 #ifdef RATTLE
         printf("  search %.3f s  ratio %.2f%s", spent[1], spent[1] / spent[0], sums[0] == sums[1] ? "" : "  DIFFERENT");
 #else

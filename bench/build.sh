@@ -1,12 +1,28 @@
 #!/usr/bin/env bash
-# Times whole builds of 64 taxa and 256 columns: plain C of the same method against the operation "build", and the stack that it uses.
+# Times whole builds of 64 taxa and 256 columns by the operation "build":
+#   bench/build.sh                 against plain C of the same method, with the stack that the operation uses
+#   bench/build.sh compare OLD.a   against an earlier libprobe.a
 # Both are x86-64 code in one program, so on Arm both run under the toolchain's emulator. `rt staticlib probe` proves what is not yet proved.
 set -euo pipefail
 here=$(cd "$(dirname "$0")" && pwd -P)
+case "$#${1:-}" in
+0) earlier='' ;;
+2compare) earlier=$(readlink -e "$2") || { echo "there is no $2" >&2; exit 2; } ;;
+*) echo "usage: bench/build.sh [compare OLD.a]" >&2; exit 2 ;;
+esac
 cd "$(dirname "$here")"
 . tests/env.sh
 room=$(mktemp -d)
 trap 'rm -rf "$room"' EXIT
 rt staticlib probe >"$room/log" 2>&1 || { tail -20 "$room/log"; exit 1; }
-"$cc" "${c_flags[@]}" bench/build.c target/staticlib/libprobe.a -o "$room/build"
+parts=(bench/build.c target/staticlib/libprobe.a)
+if [ -n "$earlier" ]; then
+    # Each function starts a page: under the emulator a loop that runs over a page's end takes a third more time, and what falls there is chance.
+    apart=("${cc%gcc}objcopy" --set-section-alignment '.text.*=4096')
+    "${apart[@]}" target/staticlib/libprobe.a "$room/now.a"
+    # One program cannot have two functions of one name: the earlier build gets another, and nothing else of its library is seen.
+    "${apart[@]}" --redefine-sym probe_build=earlier_build --keep-global-symbol=earlier_build "$earlier" "$room/earlier.a"
+    parts=(bench/compare.c "$room/now.a" "$room/earlier.a")
+fi
+"$cc" "${c_flags[@]}" "${parts[@]}" -o "$room/build"
 ${run[@]+"${run[@]}"} "$room/build"

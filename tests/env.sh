@@ -3,6 +3,8 @@
 #   cc, cxx    the compilers for programs that link what Rattle compiles, which is x86-64 code
 #   run        the words before such a program: none, or the toolchain's emulator
 #   run_rattle the words before a program of target/bin: as rt itself runs it
+#   outline_stack   the stack, in KiB, that the program `outline` has to do with (document 02's C-16)
+#   limit_stack     a function that sets run_limited, the words before a program of target/bin that is to have no more stack than it says
 #   c_flags, cxx_flags   the words after a compiler
 # and installs what is missing from Debian's packages.
 
@@ -39,6 +41,13 @@ aarch64)
     ;;
 esac
 run_rattle=(${run[@]+"${run[@]}"} "$tools/lib/ld-linux-x86-64.so.2" --library-path "$tools/lib")
+
+outline_stack=160
+# A program's variables stand on its stack, so it is given none. The emulator's stack has 8 MiB where `ulimit` says less: it goes by its own
+# variable, in bytes, and by nothing below 128 KiB.
+limit_stack() { # KIB
+    run_limited=(env -i sh -c 'ulimit -s "$1" && export QEMU_STACK_SIZE=$(($1 * 1024)) && shift && exec "$@"' sh "$1" "${run_rattle[@]}")
+}
 
 c_flags=(-std=c11 -O2 -Wall -Wextra -Werror)
 cxx_flags=(-std=c++17 -O2 -Wall -Wextra -Werror)

@@ -72,6 +72,27 @@ void largest_cases(OutlineTrial& trial, gen::Random& random) {
                 trial.compare(oracle::matrix_file(gen::random_matrix(random, 64, 256, {shape, weights, known})));
 }
 
+// Column c has the taxa from c on, so that a split takes one taxon off and the next has all the others; turned entries make flows run.
+oracle::Matrix nested(gen::Random& random, std::uint64_t heaviest, unsigned turned_percent) {
+    oracle::Matrix matrix{64, {}};
+    for (unsigned c = 0; c < 256; ++c) {
+        oracle::Column column{random.between(1, heaviest), 0, 0};
+        for (unsigned taxon = 0; taxon < 64; ++taxon) {
+            const bool one = (taxon >= c % 63) != random.chance(turned_percent);
+            (one ? column.ones : column.zeros) |= oracle::only(taxon);
+        }
+        matrix.columns.push_back(column);
+    }
+    return matrix;
+}
+
+// The deepest trees of the largest size: where the program needs the most stack.
+void deep_cases(OutlineTrial& trial, gen::Random& random) {
+    for (std::uint64_t heaviest : {4u, 65535u})
+        for (unsigned turned_percent : {0u, 1u, 5u, 15u})
+            trial.compare(oracle::matrix_file(nested(random, heaviest, turned_percent)));
+}
+
 // Far more bytes than a matrix can have: before, at and after a buffer for the largest.
 void long_files(OutlineTrial& trial, gen::Random& random) {
     const Bytes largest = oracle::matrix_file(gen::random_matrix(random, 64, 256, gen::Style{}));
@@ -108,6 +129,7 @@ int main(int argc, char** argv) {
     random_cases(trial, random, std::strtoul(argv[2], nullptr, 10));
     largest_cases(trial, random);
     long_files(trial, random);
+    deep_cases(trial, random);
     trial.finish();
     return 0;
 }

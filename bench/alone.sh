@@ -1,0 +1,23 @@
+# Sourced by the scripts that measure part of the crates by itself, at the repository's top, after tests/env.sh. `alone` makes a crate that exports
+# a function to C, in copies of the crates and of what was proved of them, below target/alone, and its static library there.
+
+room=$(mktemp -d)
+trap 'rm -rf "$room"' EXIT
+work=target/alone
+
+quietly() { "$@" >"$room/log" 2>&1 || { tail -20 "$room/log"; exit 1; }; }
+
+# Copies what is proved now.
+copy_crates() {
+    rm -rf "$work"
+    mkdir -p "$work/target"
+    cp -R crates crates.txt "$work"
+    cp -R target/rlib target/stamp "$work/target"
+}
+
+alone() { # NAME DEPENDENCIES, its source on standard input
+    mkdir -p "$work/crates/$1/src"
+    cat >"$work/crates/$1/src/lib.rt"
+    echo "$1: $2" >>"$work/crates.txt"
+    (cd "$work" && quietly rt staticlib "$1")
+}

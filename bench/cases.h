@@ -1,0 +1,110 @@
+// What the programs of bench/ share: ten kinds of matrices of 64 taxa and 256 columns, fixed, as lists and as a matrix file; processor time; and the
+// stack that an operation uses, found by painting a stack of its own. Whoever includes it defines _GNU_SOURCE before anything else.
+#ifndef CASES_H
+#define CASES_H
+
+#include <stddef.h>
+#include <stdint.h>
+#include <string.h>
+#include <time.h>
+#include <ucontext.h>
+
+enum { N = 64, M = 256, FILE_LENGTH = 12 + 22 * M, OUT_LENGTH = 20 + 16 * (N - 1) + 22 * M, STACK = 1 << 20 };
+enum { RANDOM, DENSE, SPARSE, INTERVAL, NESTED, NOISY, UNKNOWN, CLUSTERS, COMBS, PAIRS, KINDS, CASES = 2 * KINDS };
+static uint8_t file[FILE_LENGTH];
+static uint16_t weights[M];
+static uint64_t ones0[M], zeros0[M];
+static int32_t ws[N * M];
+static uint64_t state;
+
+// A case is a kind with light weights, 1 to 4, then with heavy ones, 1 to 65535.
+static inline int kind_of(int k) { return k / 2; }
+static inline int is_heavy(int k) { return k % 2; }
+static inline const char *weight_name(int k) { return is_heavy(k) ? "heavy" : "light"; }
+static inline const char *kind_name(int k) {
+    static const char *const names[] = {"random", "dense", "sparse", "interval", "nested", "noisy", "unknown", "clusters", "combs", "pairs"};
+    return names[kind_of(k)];
+}
+
+static inline double now(void) {
+    struct timespec t;
+    clock_gettime(CLOCK_PROCESS_CPUTIME_ID, &t);
+    return (double)t.tv_sec + 1e-9 * (double)t.tv_nsec;
+}
+
+static inline uint64_t rnd(void) {
+    state ^= state << 13;
+    state ^= state >> 7;
+    state ^= state << 17;
+    return state * 0x2545F4914F6CDD1Dull >> 11;
+}
+
+static inline uint8_t *number(uint8_t *at, uint64_t x, int bytes) {
+    for (int i = 0; i < bytes; i++) *at++ = (uint8_t)(x >> (8 * i));
+    return at;
+}
+
+static inline uint8_t *head(uint8_t *at, unsigned length, unsigned kind) { return number(number(at, length, 2), kind, 2); }
+
+// Whether taxon i has a 1 in column c; x is below 100, and a to b are drawn for each column.
+static inline int is_one(int kind, unsigned c, unsigned i, uint64_t x, unsigned a, unsigned b) {
+    switch (kind) {
+    case RANDOM: case UNKNOWN: return x < 50;
+    case DENSE: return x < 85;
+    case SPARSE: return x < 8;
+    case INTERVAL: return (a <= i && i <= b) != (x < 5);
+    case NESTED: return i >= c % 63;  // the deepest tree
+    case NOISY: return (i >= c % 63) != (x < 5);
+    case CLUSTERS: return (i / 8 == a / 8) != (x < 10);
+    case COMBS: return (i % 2 == a % 2) != (x < 15);
+    default: return i == a || i == b;
+    }
+}
+
+static inline int is_known(int kind, int one) {
+    if (kind == NESTED) return 1;
+    uint64_t x = rnd() % 100;
+    return kind == SPARSE ? x < 40 || one : x < (kind == UNKNOWN ? 20 : 95);
+}
+
+static inline void column(int kind, int c) {
+    unsigned a = (unsigned)(rnd() % N), b = (unsigned)(rnd() % N);
+    if (a > b) { unsigned x = a; a = b; b = x; }
+    ones0[c] = zeros0[c] = 0;
+    for (unsigned i = 0; i < N; i++) {
+        uint64_t x = rnd() % 100;
+        int one = is_one(kind, (unsigned)c, i, x, a, b);
+        if (!is_known(kind, one)) continue;
+        if (one) ones0[c] |= 1ull << i; else zeros0[c] |= 1ull << i;
+    }
+}
+
+// Case k into the lists and the file.
+static inline void make_case(int k) {
+    state = 88172645463325252ull + (uint64_t)kind_of(k);
+    uint8_t *at = number(number(head(file, 4, 1), N, 2), M, 2);
+    for (int c = 0; c < M; c++) {
+        weights[c] = (uint16_t)(is_heavy(k) ? 1 + rnd() % 65535 : 1 + rnd() % 4);
+        column(kind_of(k), c);
+        at = number(number(number(head(at, 18, 2), weights[c], 2), ones0[c], 8), zeros0[c], 8);
+    }
+    head(at, 0, 3);
+}
+
+// Runs an operation on a stack of its own, painted before; the lowest byte that changed says how deep it went.
+static inline size_t stack_used(void (*operation)(void)) {
+    static uint8_t stack[STACK];
+    static ucontext_t back, there;
+    memset(stack, 0xA5, STACK);
+    getcontext(&there);
+    there.uc_stack.ss_sp = stack;
+    there.uc_stack.ss_size = STACK;
+    there.uc_link = &back;
+    makecontext(&there, operation, 0);
+    swapcontext(&back, &there);
+    size_t i = 0;
+    while (i < STACK && stack[i] == 0xA5) i++;
+    return STACK - i;
+}
+
+#endif

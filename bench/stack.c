@@ -1,0 +1,81 @@
+// The most stack that the operations use over the matrices of cases.h, a split's group being all taxa. Build and split are measured in a
+// library where both call the search's `divide`, and in one that has no other operation: there the compiler puts it into its only caller.
+// Ends with 1 where one uses more than document 02's C-16 allows, or where the check or the score uses more than include/flipcut.h says.
+//   stack FOLDER   also writes the matrices there, as files
+#define _GNU_SOURCE
+#include "cases.h"
+#include "../include/flipcut.h"
+#include "../tests/probe.h"
+#include <stdio.h>
+
+enum { MOST_FOR_BUILD = 40960, MOST_FOR_SPLIT = 12288, MOST_FOR_CHECK = 1024, MOST_FOR_SCORE = 4096 };  // bytes
+
+// What the crates of bench/stack.sh export: the length written, and side A; 0 for a refusal.
+uint64_t build_alone(const uint8_t *file, size_t len, int32_t *workspace, size_t workspace_len, uint8_t *out, size_t out_len);
+uint64_t split_alone(const uint8_t *file, size_t len, uint64_t group, int32_t *workspace, size_t workspace_len);
+
+static uint8_t out[OUT_LENGTH];
+static uint64_t result[5];
+
+static void build_of_one(void) { result[2] = build_alone(file, FILE_LENGTH, ws, N * M, out, OUT_LENGTH); }
+static void build_of_two(void) { probe_build(file, FILE_LENGTH, ws, N * M, out, OUT_LENGTH, result, 5); }
+static void split_of_one(void) { result[3] = split_alone(file, FILE_LENGTH, ~0ull, ws, N * M); }
+static void split_of_two(void) { probe_split(file, FILE_LENGTH, ~0ull, ws, N * M, result, 5); }
+
+static void check(void) { result[0] = flipcut_taxa(flipcut_check(file, FILE_LENGTH)); }
+static void score(void) { result[1] = !flipcut_refused(flipcut_score(file, FILE_LENGTH, out, result[2])); }
+
+// In this order, since the score is of the build's answer.
+static struct {
+    const char *name;
+    void (*run)(void);
+    const uint64_t *answer;  // 0 for a refusal
+    size_t most, used;
+} operations[] = {
+    {"build, one caller", build_of_one, &result[2], MOST_FOR_BUILD, 0},
+    {"build, two callers", build_of_two, &result[2], MOST_FOR_BUILD, 0},
+    {"score", score, &result[1], MOST_FOR_SCORE, 0},
+    {"check", check, &result[0], MOST_FOR_CHECK, 0},
+    {"split, one caller", split_of_one, &result[3], MOST_FOR_SPLIT, 0},
+    {"split, two callers", split_of_two, &result[3], MOST_FOR_SPLIT, 0},
+};
+enum { OPERATIONS = sizeof operations / sizeof *operations };
+
+// The file of case k; bench/stack.sh gives it to the program `outline`.
+static int write_file(const char *folder, int k) {
+    char name[4096];
+    snprintf(name, sizeof name, "%s/%s-%s.matrix", folder, kind_name(k), weight_name(k));
+    FILE *f = fopen(name, "wb");
+    if (!f) return 0;
+    size_t written = fwrite(file, 1, FILE_LENGTH, f);
+    return fclose(f) == 0 && written == FILE_LENGTH;
+}
+
+// False where an operation refused: then it used less stack than it may need.
+static int measure(void) {
+    memset(result, 0, sizeof result);
+    for (int i = 0; i < OPERATIONS; i++) {
+        size_t used = stack_used(operations[i].run);
+        if (used > operations[i].used) operations[i].used = used;
+        if (!*operations[i].answer) return 0;
+    }
+    return 1;
+}
+
+int main(int count, char **words) {
+    if (count != 2) return 2;
+    for (int k = 0; k < CASES; k++) {
+        make_case(k);
+        if (!write_file(words[1], k) || !measure()) {
+            printf("%s %s: not written, or refused\n", kind_name(k), weight_name(k));
+            return 1;
+        }
+    }
+    int over = 0;
+    for (int i = 0; i < OPERATIONS; i++) {
+        int more = operations[i].used > operations[i].most;
+        printf("%-18s  %6zu bytes, allowed %zu%s\n", operations[i].name, operations[i].used, operations[i].most, more ? "  TOO MUCH" : "");
+        over |= more;
+    }
+    return over;
+}
