@@ -1,21 +1,25 @@
 -- The search of a group: a largest flow to each other taxon in turn, the least of them, and that it names what listing names.
 use Prim.Native.Nat.{ℕ, _+_, _-_, _*_, _^_, _≤_, _<_}
 use mathlib.Core.Path.{_≡_, refl, sym, ap, _∙_}
-use mathlib.Core.Bool.{Bool, true, false, cond, true≢false}
+use mathlib.Core.Bool.{Bool, true, false, not, cond, true≢false}
 use mathlib.Core.List.{List}
 use mathlib.Core.Logic.{_≢_, _⊎_, ⊎-elim}
+use native.Mathlib.Nat.{mul-le-mul-left}
 use native.Mathlib.Decide.{decLt}
 use native.Mathlib.Omega.{arith}
 use lib.Dec.{ltb}
 use lib.IntN.{ℤ}
 use lib.ListN.{length}
 use lib.Pow.{pow-mono}
-use borrow.Author.Tests.{lt-ltb, le-ltb}
-use Rattle.taxa.specs.Sets.{has, _∈_, _∉_, _⊆_, _∩_, _∖_, count, low}
-use Rattle.taxa.proofs.Members.{out, in∩, in∖, ∩-≤, in-remove, none, below, low-in, low-≤, low-width, ⊆-≤, ∖-⊆}
+use borrow.Author.Tests.{lt-ltb, le-ltb, ltb-true}
+use Rattle.taxa.specs.Sum.{∁}
+use Rattle.taxa.specs.Sets.{has, all, _∈_, _∉_, _⊆_, _∩_, _∖_, count, low}
+use Rattle.taxa.proofs.Sums.{sum-≤}
+use Rattle.taxa.proofs.Insides.{inside-term}
+use Rattle.taxa.proofs.Members.{all-<, out, in∩, in∖, ∩-≤, in-remove, none, below, low-in, low-≤, low-width, ⊆-≤, ∖-⊆}
 use Rattle.taxa.proofs.Counts.{count-pos, count-remove, count-width}
 use Rattle.method.specs.Split.{Division, divisionCost, side}
-use Rattle.method.specs.Flow.{joined, cap, through, cutCost, Flow, Reach, start, step}
+use Rattle.method.specs.Flow.{joined, cap, through, cut as cutIn, cutCost, Flow, Reach, start, step}
 use Rattle.method.proofs.Cuts.{weak, min-cut, MinCut}
 use Rattle.method.proofs.Cuts as cuts
 use Rattle.method.proofs.Listing.{Search, search-side}
@@ -24,9 +28,10 @@ use Rattle.search.specs.Workspace.{outs, inns, cleared}
 use Rattle.search.specs.Network.{nth, caps, Net}
 use Rattle.search.specs.Flows.{Side, Largest}
 use Rattle.search.specs.Search.{colsOf, Given, capsOf, throughOf, DividedByFlow}
-use Rattle.search.specs.Trying.{Joins, Limits, costs, Parts, Tried}
+use Rattle.search.specs.Trying.{Joins, Limits, tie, ties, costs, Parts, Tried}
 use Rattle.method.proofs.Carry.{same?}
-use Rattle.search.proofs.Reaching.{in-caps, off-none}
+use Rattle.method.proofs.Spread.{true?}
+use Rattle.search.proofs.Reaching.{caps-in, in-caps, off-none}
 use Rattle.search.proofs.Flows.{none-used, no-flow}
 use Rattle.search.proofs.Same.{same-cost, same-flow, same-reach}
 
@@ -60,6 +65,37 @@ module _ {W J L : List ℕ} {n m : ℕ} {ws : List ℤ} {s t : ℕ} (bs : s < n)
     pub stand-parts : (S : ℕ) → has S t ≡ true → Parts W J L n m S s k t
     stand-parts S h = record { other = h; set = A; with-s = r .side .all s bs .1 start; off-b = r .parts; costs-k = cut .0 }
 
+-- ---- what a taxon is tied to costs
+
+abbrev cutOf : List ℕ → List ℕ → List ℕ → ℕ → (ℕ → Bool) → ℕ → ℕ
+cutOf W J L n D c = cutIn n (caps W J c) (nth L c) D
+
+cond-≤ : (t : Bool) {x y : ℕ} → (t ≡ true → x ≤ y) → cond t x 0 ≤ y
+cond-≤ true h = h refl
+cond-≤ false h = omega arith
+
+module _ {W J L : List ℕ} {n m : ℕ} (z : Net W J L n m) (D : ℕ → Bool) {u : ℕ} (bu : u < n) {l : ℕ} (fits : l < 2 ^ u) (all-in : (i : ℕ) → i ∈ l → D i ≡ true) (off : D u ≡ false) where
+  -- A column that joins u with a taxon of l: at least its weight on both sides, and through it.
+  both : (c : ℕ) → c < m → has (nth J c) u ≡ true → 0 < nth J c ∩ l → nth W c ≤ cutOf W J L n D c
+  both c b h p =
+      let i = low u (nth J c ∩ l) in
+      let (a, e) = in∩ (nth J c) l .0 (low-in u p (omega (arith, ∩-≤ (nth J c) l))) in
+      omega (
+        arith,
+        inside-term n D (caps W J c) (z .low c b i (a .is)) (all-in i e),
+        caps-in W J c i (a .is),
+        inside-term n (∁ D) (caps W J c) bu (ap not off),
+        caps-in W J c u h,
+        z .wide c b u h,
+      )
+
+  tie-≤ : (c : ℕ) → c < m → tie (nth W c) (nth J c) l u ≤ cutOf W J L n D c
+  tie-≤ c b =
+      cond-≤ (has (nth J c) u) (λ h. cond-≤ (ltb 0 (nth J c ∩ l)) (λ t. both c b h (ltb-true 0 (nth J c ∩ l) t)))
+
+  pub ties-≤ : ties W J m l u ≤ costs W J L n m D
+  ties-≤ = sum-≤ m tie-≤
+
 -- ---- the taxa one after the other
 
 clash : (D : ℕ → Bool) (i j : ℕ) → D i ≡ true → D j ≡ false → i ≢ j
@@ -85,6 +121,24 @@ module _ {W J L : List ℕ} {n m S s : ℕ} where
     least = λ D i p q h l. ⊎-elim (λ f. absurd (true≢false (sym h ∙ ap (has S) f ∙ e))) (λ ne. r .least D i p q h (omega arith)) (same? i u);
     first = r .first;
   }
+
+  -- The sets that hold all taxa of S below u cost what ties u to those at least, and the others have been tried.
+  pub tried-tied : {u k b : ℕ} → Tried W J L n m S s u k b → Net W J L n m → u < n → k ≤ ties W J m (S ∩ all u) u → Tried W J L n m S s (u + 1) k b
+  tried-tied {u} {k} r z bu le = record {
+    best = r .best;
+    below = omega (arith, r .below);
+    least = λ D i p q h b. ⊎-elim (λ f. enough D p (ap D (sym f) ∙ q) (decLt (costs W J L n m D) k)) (λ ne. r .least D i p q h (omega arith)) (same? i u);
+    first = r .first;
+  }
+    where
+      holds : (D : ℕ → Bool) → D s ≡ true → costs W J L n m D < k → (i : ℕ) → i ∈ S ∩ all u → D i ≡ true
+      holds D p l i h =
+          let (a, b) = in∩ S (all u) .0 h in
+          ⊎-elim (λ e. e) (λ e. absurd (omega (arith, r .least D i p e (a .is) (below u (all-< u) b)))) (true? (D i))
+
+      enough : (D : ℕ → Bool) → D s ≡ true → D u ≡ false → Dec (costs W J L n m D < k) → k ≤ costs W J L n m D
+      enough D p q (yes l) = omega (arith, ties-≤ z D bu (omega (arith, ∩-≤ S (all u), all-< u)) (holds D p l) q)
+      enough D p q (no l) = omega arith
 
   module _ {ws : List ℤ} {u k b k′ A : ℕ} (r : Tried W J L n m S s u k b) (bs : s < n) (l : Largest W J L n m ws s u k k′ A) where
     pub tried-better : has S u ≡ true → k′ < k → Tried W J L n m S s (u + 1) k′ u
@@ -181,8 +235,21 @@ module _ {W O Z : List ℕ} {S n m : ℕ} (g : Given W O Z S n m) {J L : List �
   joins-in : (c : ℕ) → c < m → (i : ℕ) → has (nth J c) i ≡ true → has S i ≡ true
   joins-in c b i h = cond-in (ltb 0 (count 64 (nth Z c ∩ S))) (nth O c) S i (ap (λ (x : ℕ). has x i) (sym (j .is c b)) ∙ h)
 
+  -- A column that joins a taxon has a 0 in S.
+  cond-pos : (t : ℕ) (x i : ℕ) → has (cond (ltb 0 t) x 0) i ≡ true → 0 < t
+  cond-pos t x i h = go (ltb 0 t) refl h
+    where
+      go : (b : Bool) → ltb 0 t ≡ b → has (cond b x 0) i ≡ true → 0 < t
+      go true e k = ltb-true 0 t e
+      go false e k = absurd (none {i = i} (record { is = k }))
+
+  wide : (c : ℕ) → c < m → (i : ℕ) → has (nth J c) i ≡ true → nth W c ≤ nth L c
+  wide c b i h =
+      let k = count 64 (nth Z c ∩ S) in
+      omega (arith, l .is c b, mul-le-mul-left (nth W c) (cond-pos k (nth O c ∩ S) i (ap (λ (x : ℕ). has x i) (sym (j .is c b)) ∙ h)))
+
   pub net : ((c : ℕ) → c < m → nth W c < 65536) → Net W J L n m
-  net light = record { taxa = g .taxa; columns = g .columns; weights = g .weights; light = light; low = λ c b i h. below n (g .group) (record { is = joins-in c b i h }) }
+  net light = record { taxa = g .taxa; columns = g .columns; weights = g .weights; light = light; low = λ c b i h. below n (g .group) (record { is = joins-in c b i h }); wide = wide }
 
   cost-is : (A : ℕ) → A ⊆ S → costs W J L n m (has A) ≡ divisionCost n m (colsOf W O Z) S A
   cost-is A h = same-cost n caps-is through-is (has A) ∙ network-cost n m (colsOf W O Z) S A h

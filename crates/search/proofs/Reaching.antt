@@ -24,7 +24,7 @@ use Rattle.method.proofs.Sweep.{leads-open, leads-full, send-start, send-end, s
 
 -- ---- what a column joins
 
-caps-in : (W J : List ℕ) (c i : ℕ) → has (nth J c) i ≡ true → caps W J c i ≡ nth W c
+pub caps-in : (W J : List ℕ) (c i : ℕ) → has (nth J c) i ≡ true → caps W J c i ≡ nth W c
 unfolding caps
 caps-in W J c i h = rw h
 

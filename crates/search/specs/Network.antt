@@ -41,6 +41,7 @@ pub record Net (W J L : List ℕ) (n m : ℕ) : Type 0 where
   pub weights : m ≤ length W
   pub light : (c : ℕ) → c < m → nth W c < 65536
   pub low : (c : ℕ) → c < m → (i : ℕ) → has (nth J c) i ≡ true → i < n
+  pub wide : (c : ℕ) → c < m → (i : ℕ) → has (nth J c) i ≡ true → nth W c ≤ nth L c
 
 -- The net flows of the workspace balance at every column and keep its limits; U counts them.
 pub record Ready (W J L : List ℕ) (n m : ℕ) (ws : List ℤ) (U : List ℕ) : Type 0 where

@@ -5,6 +5,7 @@ use mathlib.Core.List.{List}
 use Prim.Native.Nat.{ℕ, _*_, _≤_, _<_}
 use lib.Dec.{ltb}
 use lib.ListN.{length}
+use Rattle.taxa.specs.Sum.{sum}
 use Rattle.taxa.specs.Sets.{has, _∩_, count}
 use Rattle.method.specs.Flow.{cutCost}
 use Rattle.search.specs.Network.{nth, caps}
@@ -18,6 +19,14 @@ pub record Joins (O Z : List ℕ) (S m : ℕ) (J : List ℕ) : Type 0 where
 pub record Limits (W Z : List ℕ) (S m : ℕ) (L : List ℕ) : Type 0 where
   pub long : length L ≡ 256
   pub is : (c : ℕ) → c < m → nth L c ≡ nth W c * count 64 (nth Z c ∩ S)
+
+-- What a column of weight w that joins j weighs between taxon u and those of l: w, if it joins u with one of them.
+abbrev pub tie : ℕ → ℕ → ℕ → ℕ → ℕ
+tie w j l u = cond (has j u) (cond (ltb 0 (j ∩ l)) w 0) 0
+
+-- What all columns weigh there: a set with all of l and without u costs that at least.
+abbrev pub ties : List ℕ → List ℕ → ℕ → ℕ → ℕ → ℕ
+ties W J m l u = sum m (λ c. tie (nth W c) (nth J c) l u)
 
 -- What a set of taxa cuts of the network in the lists.
 abbrev pub costs : List ℕ → List ℕ → List ℕ → ℕ → ℕ → (ℕ → Bool) → ℕ

@@ -15,7 +15,8 @@ ghost use Rattle.search.specs.Workspace.{cleared, Kept};
 ghost use Rattle.search.specs.Network.{Net, Spare, Lent};
 ghost use Rattle.search.specs.Flows.{Side};
 ghost use Rattle.search.specs.Search.{Given, DividedByFlow};
-ghost use Rattle.search.specs.Trying.{Joins, Limits, Tried};
+ghost use Rattle.search.specs.Trying as trying;
+ghost use Rattle.search.specs.Trying.{ties, Joins, Limits, Tried};
 
 // x, unless z is 0.
 fn unless_none(z: u32, x: u64) -> u64
@@ -82,7 +83,34 @@ struct Best {
     other: usize,
 }
 
-// Taxon u is tried.
+// The weight of a column that joins `joined`, if it joins taxon u with one of `lower`.
+fn tie(weight: u16, joined: u64, lower: u64, u: usize) -> u32
+    requires { ⌜ u < 64 ⌝ }
+    ensures { λ r. ⌜ (r ≡ trying.tie weight joined lower u) × (r < 65536) ⌝ }
+{
+    if !taxa::contains(joined, u as u32) {
+        return 0;
+    }
+    if 0 < taxa::common(joined, lower) {
+        reach::wide(weight)
+    } else {
+        0
+    }
+}
+
+// What the columns that join u with a taxon of `lower` weigh.
+fn tied(weights: &[u16], joined: &[u64; 256], m: usize, lower: u64, u: usize) -> u32
+    requires { ⌜ (m ≤ 256) × (m ≤ length (now weights)) × (u < 64) ⌝ }
+    ensures { λ r. ⌜ r ≡ ties (now (weights .entry)) (now (joined .entry)) m lower u ⌝ }
+{
+    let mut sum: u32 = 0;
+    for c in 0..m {
+        sum = sum + tie(weights[c], joined[c], lower, u);
+    }
+    sum
+}
+
+// Taxon u is tried. A set with all taxa of the group below u, and without u, costs what ties u to them at least: no flow is needed if that is no less.
 fn attempt(
     weights: &[u16],
     joined: &[u64; 256],
@@ -110,6 +138,10 @@ fn attempt(
         × Spare (now (used .exit)) (now (tree .exit)) ⌝ }
 {
     if !taxa::contains(group, u as u32) {
+        return best;
+    }
+    let lower = taxa::common(group, taxa::all(u as u32));
+    if best.cost <= tied(weights, joined, m, lower, u) {
         return best;
     }
     let cut = push::largest(
