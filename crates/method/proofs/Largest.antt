@@ -9,11 +9,13 @@ use native.Mathlib.Nat.{le-refl}
 use native.Mathlib.Omega.{arith}
 use Rattle.taxa.proofs.Sums.{sum-0}
 use Rattle.method.specs.Flow.{cutCost, Flow, Reach, start, Largest}
-use Rattle.method.proofs.Cuts.{weak, least, min-cut}
-use Rattle.method.proofs.Carry.{Hopped, same?, put, put-at, put-off}
+use Rattle.method.specs.Sources.{FlowFrom, ReachFrom}
+use Rattle.method.proofs.Sources.{true?, only, only-alone, alone-off, as-one, reach-one, one-reach}
+use Rattle.method.proofs.Cuts.{weak, weak-from, least, min-cut}
+use Rattle.method.proofs.Carry.{Hopped, put, put-at, put-off}
 use Rattle.method.proofs.HopTree.{Tree, reached}
 use Rattle.method.proofs.Path.{Pushing, push-start, push-step, push-end, apart}
-use Rattle.method.proofs.Spread.{true?, only, some-width, spanned}
+use Rattle.method.proofs.Spread.{some-width, spanned}
 
 -- ---- one path
 
@@ -59,18 +61,18 @@ sent n m out inn c i j d ne = record {
 }
 
 -- A flow, with its entries.
-abbrev SomeFlow : (n m : ℕ) (cap : ℕ → ℕ → ℕ) (thr : ℕ → ℕ) (s t size : ℕ) → Type 0
-SomeFlow n m cap thr s t size = (out : ℕ → ℕ → ℕ) × (inn : ℕ → ℕ → ℕ) × Flow n m cap thr out inn s t size
+abbrev SomeFlow : (n m : ℕ) (cap : ℕ → ℕ → ℕ) (thr : ℕ → ℕ) (X : ℕ → Bool) (t size : ℕ) → Type 0
+SomeFlow n m cap thr X t size = (out : ℕ → ℕ → ℕ) × (inn : ℕ → ℕ → ℕ) × FlowFrom n m cap thr out inn X t size
 
-module _ {n m : ℕ} {cap : ℕ → ℕ → ℕ} {thr : ℕ → ℕ} {out inn : ℕ → ℕ → ℕ} {s : ℕ} {R : ℕ → Bool} {from via turn width : ℕ → ℕ} {t k d : ℕ}
-    (tree : Tree n m cap thr out inn s R from via turn width) (bs : s < n) (ne : t ≢ s) where
-  push : (f : ℕ) {out′ inn′ : ℕ → ℕ → ℕ} {j : ℕ} → turn j < f → Pushing n m cap thr out inn s R from via turn width t k d out′ inn′ j → SomeFlow n m cap thr s t (k + d)
+module _ {n m : ℕ} {cap : ℕ → ℕ → ℕ} {thr : ℕ → ℕ} {out inn : ℕ → ℕ → ℕ} {X : ℕ → Bool} {R : ℕ → Bool} {from via turn width : ℕ → ℕ} {t k d : ℕ}
+    (tree : Tree n m cap thr out inn X R from via turn width) where
+  push : (f : ℕ) {out′ inn′ : ℕ → ℕ → ℕ} {j : ℕ} → turn j < f → Pushing n m cap thr out inn X R from via turn width t k d out′ inn′ j → SomeFlow n m cap thr X t (k + d)
   push zero b p = absurd (omega arith)
   push (suc f) {out′} {inn′} {j} b p =
       ⊎-elim
-      (λ e. (out′, inn′, push-end (rw e at p) bs ne))
+      (λ h. (out′, inn′, push-end p (tree .low j (p .held)) h))
       (λ ns. push f (omega (arith, tree .link j (p .held) ns .earlier)) (push-step tree p ns (sent n m out′ inn′ (via j) (from j) j d (apart tree p ns))))
-      (same? j s)
+      (true? (X j))
 
 -- ---- a largest flow
 
@@ -86,20 +88,26 @@ module _ (n m : ℕ) (cap : ℕ → ℕ → ℕ) (thr : ℕ → ℕ) (s t : ℕ)
     pub missed : set t ≡ false
 
   module _ (bs : s < n) (ne : t ≢ s) where
+    off : only s t ≡ false
+    off = alone-off (only-alone s) t ne
+
     -- Units that can still be pushed are below f.
-    more : (f : ℕ) {out inn : ℕ → ℕ → ℕ} {size : ℕ} → Flow n m cap thr out inn s t size → cutCost n m cap thr (only s) < size + f → Ended
+    more : (f : ℕ) {out inn : ℕ → ℕ → ℕ} {size : ℕ} → FlowFrom n m cap thr out inn (only s) t size → cutCost n m cap thr (only s) < size + f → Ended
     more zero {out} {inn} flow l =
-        absurd (omega (arith, weak n m cap thr out inn flow bs (only s) (put-at (λ x. false) s true) (put-off (λ x. false) s true t ne)))
+        absurd (omega (arith, weak-from n m cap thr out inn flow (only s) (λ i h. h) off))
     more (suc f) {out} {inn} {size} flow l =
-        let p = spanned n m cap thr out inn s bs in
+        let p = spanned n m cap thr out inn (only s) (λ x h. rw (only-alone s .one x h) bs) in
         ⊎-elim
         (λ r.
-        let (out′, inn′, flow′) = push (p .tree) bs ne (suc (p .notes .turn t)) (omega arith) (push-start flow ne r (le-refl (p .notes .width t))) in
-        more f flow′ (omega (arith, some-width n m cap thr out inn s (p .notes) (p .tree) t r)))
-        (λ r. record { out = out; inn = inn; size = size; set = p .notes .set; flow = flow; reached = reached (p .tree) (flow .column) (p .shut); missed = r })
+        let (out′, inn′, flow′) = push (p .tree) (suc (p .notes .turn t)) (omega arith) (push-start flow off r (le-refl (p .notes .width t))) in
+        more f flow′ (omega (arith, some-width n m cap thr out inn (only s) (p .notes) (p .tree) t r)))
+        (λ r. record { out = out; inn = inn; size = size; set = p .notes .set; flow = as-one (only-alone s) bs flow; reached = λ i b. by-s (reached (p .tree) (flow .column) (p .shut) i b); missed = r })
         (true? (p .notes .set t))
+      where
+        by-s : {i : ℕ} {A : Type 0} → A ↔ ReachFrom n m cap thr out inn (only s) i → A ↔ Reach n m cap thr out inn s i
+        by-s (f, g) = (λ a. reach-one (only-alone s) (f a), λ r. g (one-reach (only-alone s) r))
 
-    nothing : Flow n m cap thr (λ c i. 0) (λ c i. 0) s t 0
+    nothing : FlowFrom n m cap thr (λ c i. 0) (λ c i. 0) (only s) t 0
     nothing = record {
       column = λ c b. record {
         out-fits = λ i bi. omega arith;

@@ -1,4 +1,5 @@
 -- Flows and cuts.
+pub mod Sources
 pub mod Hops
 pub mod Cuts
 pub mod Carry

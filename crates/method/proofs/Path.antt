@@ -1,13 +1,17 @@
--- A path of the tree pushed hop by hop, from its end back to s: at each taxon j of it stands a flow of the old size from s to t, and d more from j to t.
+-- One hop pushed (`hop-columns`, `hop-net`), as where it runs straight from a source to t (`direct`); and a path of the tree pushed hop by hop, from its
+-- end back to a source: at each taxon j of it stands a flow of the old size from the sources to t, and d more from j to t.
 use Prim.Native.Nat.{ℕ, _+_, _-_, _≤_, _<_}
 use mathlib.Core.Path.{_≡_, refl, sym, ap, _∙_}
-use mathlib.Core.Bool.{Bool, true}
+use mathlib.Core.Bool.{Bool, true, false, cond, true≢false}
 use mathlib.Core.Logic.{_≢_, ⊎-elim}
 use native.Mathlib.Omega.{arith}
 use native.Mathlib.Decide.{decLt}
-use Rattle.taxa.specs.Sum.{sum}
-use Rattle.taxa.proofs.Sums.{sum-≡, sum-but}
-use Rattle.method.specs.Flow.{ColumnFlow, Flow}
+use Rattle.taxa.specs.Sum.{sum, inside}
+use Rattle.taxa.proofs.Sums.{sum-≡, sum-but, sum-0, sum-none, sum-bump}
+use Rattle.taxa.proofs.Insides.{cond-≡, inside-+}
+use Rattle.method.specs.Flow.{ColumnFlow}
+use Rattle.method.specs.Sources.{FlowFrom}
+use Rattle.method.proofs.Sources.{total}
 use Rattle.method.proofs.Carry.{up, down, room, most, carry, Hopped, same?, put, put-at, put-off, carry-up, carry-down, carry-most, moved, same-column}
 use Rattle.method.proofs.HopTree.{Tree, Link}
 
@@ -21,24 +25,113 @@ at-same a k = put-at (λ x. 0) a k
 at-other : (a k x : ℕ) → x ≢ a → at a k x ≡ 0
 at-other a k x ne = put-off (λ x. 0) a k x ne
 
-module _ (n m : ℕ) (cap : ℕ → ℕ → ℕ) (thr : ℕ → ℕ) (out inn : ℕ → ℕ → ℕ) (s : ℕ) (R : ℕ → Bool) (from via turn width : ℕ → ℕ) (t k d : ℕ) where
-  -- A flow of k units from s to t, and d units more from j to t; what lies before j is as it was.
+cond-none : (b : Bool) {x : ℕ} → (b ≡ true → x ≡ 0) → cond b x 0 ≡ 0
+cond-none true h = h refl
+cond-none false h = refl
+
+-- ---- one hop: d units more from taxon i to taxon j through column c
+
+module _ {n m : ℕ} {out inn out′ inn′ : ℕ → ℕ → ℕ} {c i j d : ℕ} (bc : c < m) (bi : i < n) (bj : j < n) (ne : i ≢ j) (h : Hopped n m out inn out′ inn′ c i j d) where
+  pub hop-columns : {cap : ℕ → ℕ → ℕ} {thr : ℕ → ℕ} → ((e : ℕ) → e < m → ColumnFlow n (cap e) (thr e) (out e) (inn e)) → out c i + d ≤ cap c i + inn c i → inn c j + d ≤ cap c j + out c j
+      → d ≤ most n (cap c) (thr c) (out c) (inn c) i j → (e : ℕ) → e < m → ColumnFlow n (cap e) (thr e) (out′ e) (inn′ e)
+  hop-columns col u w r e b = ⊎-elim (λ q. rw q (moved (col c bc) bi bj (h .here) ne u w r)) (λ q. same-column (col e b) (h .rest-out e b q) (h .rest-inn e b q)) (same? e c)
+
+  -- The sums of a taxon's entries, but for those of column c.
+  all-out : (x : ℕ) → x < n → total m out′ x + out c x ≡ total m out x + out′ c x
+  all-out x b = sum-but m {g = λ e. out′ e x} {h = λ e. out e x} bc (λ e be q. h .rest-out e be q x b)
+
+  all-inn : (x : ℕ) → x < n → total m inn′ x + inn c x ≡ total m inn x + inn′ c x
+  all-inn x b = sum-but m {g = λ e. inn′ e x} {h = λ e. inn e x} bc (λ e be q. h .rest-inn e be q x b)
+
+  -- What a taxon sends more than it takes: d more at i, d less at j, and elsewhere as it was.
+  abbrev Nets : ℕ → Type 0
+  Nets x = total m out′ x + at j d x + total m inn x ≡ total m out x + at i d x + total m inn′ x
+
+  pub hop-net : (x : ℕ) → x < n → Nets x
+  hop-net x b = ⊎-elim at-i (λ u. ⊎-elim (at-j u) (other u) (same? x j)) (same? x i)
+    where
+      at-i : x ≡ i → Nets x
+      at-i e =
+          let q : x ≢ j = λ f. ne (sym e ∙ f) in
+          omega (arith, all-out x b, all-inn x b, at-other j d x q, ap (at i d) e, at-same i d, ap (out c) e, ap (inn c) e, ap (out′ c) e, ap (inn′ c) e, h .here .from-out, h .here .from-inn)
+
+      at-j : x ≢ i → x ≡ j → Nets x
+      at-j u e =
+          omega (arith, all-out x b, all-inn x b, at-other i d x u, ap (at j d) e, at-same j d, ap (out c) e, ap (inn c) e, ap (out′ c) e, ap (inn′ c) e, h .here .to-out, h .here .to-inn)
+
+      other : x ≢ i → x ≢ j → Nets x
+      other u v = omega (arith, all-out x b, all-inn x b, at-other i d x u, at-other j d x v, h .here .rest-out x b u v, h .here .rest-inn x b u v)
+
+  -- The same over a set of taxa.
+  pub hop-net-from : (X : ℕ → Bool) →
+      sum n (inside X (total m out′)) + sum n (inside X (at j d)) + sum n (inside X (total m inn)) ≡ sum n (inside X (total m out)) + sum n (inside X (at i d)) + sum n (inside X (total m inn′))
+  hop-net-from X =
+      omega (
+        arith,
+        inside-+ n X (total m out′) (at j d),
+        inside-+ n X (λ x. total m out′ x + at j d x) (total m inn),
+        inside-+ n X (total m out) (at i d),
+        inside-+ n X (λ x. total m out x + at i d x) (total m inn′),
+        sum-≡ n {g = inside X (λ x. total m out′ x + at j d x + total m inn x)} {h = inside X (λ x. total m out x + at i d x + total m inn′ x)} (λ x b. cond-≡ (X x) (λ a. hop-net x b)),
+      )
+
+-- d units at a taxon of X, or at one off it.
+at-in : (n : ℕ) (X : ℕ → Bool) {a : ℕ} (d : ℕ) → a < n → X a ≡ true → sum n (inside X (at a d)) ≡ d
+at-in n X {a} d b h =
+    omega (
+      arith,
+      sum-bump n {g = inside X (at a d)} {h = λ x. 0} d b (omega (arith, at-same a d, ap (λ (t : Bool). cond t (at a d a) 0) h)) (λ x bx ne. cond-none (X x) (λ e. at-other a d x ne)),
+      sum-0 n,
+    )
+
+at-off : (n : ℕ) (X : ℕ → Bool) {a : ℕ} (d : ℕ) → X a ≡ false → sum n (inside X (at a d)) ≡ 0
+at-off n X {a} d h = sum-none n (λ x b. cond-none (X x) (λ e. at-other a d x (λ q. true≢false (sym e ∙ ap X q ∙ h))))
+
+-- ---- a hop straight from a source to t
+
+module _ {n m : ℕ} {cap : ℕ → ℕ → ℕ} {thr : ℕ → ℕ} {out inn : ℕ → ℕ → ℕ} {X : ℕ → Bool} {t k c i d : ℕ} (f : FlowFrom n m cap thr out inn X t k) (bi : i < n) (bt : t < n) (bc : c < m)
+    (le : d ≤ carry n (cap c) (thr c) (out c) (inn c) i t) where
+  pub direct-sends : out c i + d ≤ cap c i + inn c i
+  unfolding up
+  direct-sends = omega (arith, carry-up n (cap c) (thr c) (out c) (inn c) i t, f .column c bc .out-fits i bi)
+
+  pub direct-takes : inn c t + d ≤ cap c t + out c t
+  unfolding down
+  direct-takes = omega (arith, carry-down n (cap c) (thr c) (out c) (inn c) i t, f .column c bc .inn-fits t bt)
+
+  -- It makes the flow larger by what it carries.
+  pub direct : {out′ inn′ : ℕ → ℕ → ℕ} → X i ≡ true → X t ≡ false → Hopped n m out inn out′ inn′ c i t d → FlowFrom n m cap thr out′ inn′ X t (k + d)
+  direct xi xt h = record {
+    column = hop-columns bc bi bt ne h (f .column) direct-sends direct-takes (omega (arith, carry-most n (cap c) (thr c) (out c) (inn c) i t));
+    through = λ x b nx nt. omega (arith, hop-net bc bi bt ne h x b, f .through x b nx nt, at-other i d x (λ e. true≢false (sym xi ∙ ap X (sym e) ∙ nx)), at-other t d x nt);
+    source = omega (arith, hop-net-from bc bi bt ne h X, f .source, at-in n X d bi xi, at-off n X d xt);
+  }
+    where
+      ne : i ≢ t
+      ne e = true≢false (sym xi ∙ ap X e ∙ xt)
+
+-- ---- a path
+
+module _ (n m : ℕ) (cap : ℕ → ℕ → ℕ) (thr : ℕ → ℕ) (out inn : ℕ → ℕ → ℕ) (X : ℕ → Bool) (R : ℕ → Bool) (from via turn width : ℕ → ℕ) (t k d : ℕ) where
+  -- A flow of k units from X to t, and d units more from j to t; what lies before j is as it was.
   pub record Pushing (out′ inn′ : ℕ → ℕ → ℕ) (j : ℕ) : Type 0 where
     pub column : (c : ℕ) → c < m → ColumnFlow n (cap c) (thr c) (out′ c) (inn′ c)
-    pub net : (x : ℕ) → x < n → x ≢ t → sum m (λ c. out′ c x) ≡ at s k x + at j d x + sum m (λ c. inn′ c x)
+    pub net : (x : ℕ) → x < n → X x ≡ false → x ≢ t → total m out′ x ≡ at j d x + total m inn′ x
+    pub source : sum n (inside X (total m out′)) ≡ k + sum n (inside X (at j d)) + sum n (inside X (total m inn′))
     pub fresh-out : (x : ℕ) → x < n → turn x < turn j → (c : ℕ) → c < m → out′ c x ≡ out c x
     pub fresh-inn : (x : ℕ) → x < n → turn x < turn j → (c : ℕ) → c < m → inn′ c x ≡ inn c x
     pub more-out : (c : ℕ) → c < m → out c j ≤ out′ c j
     pub less-inn : (c : ℕ) → c < m → inn′ c j ≤ inn c j
-    pub unused : (x : ℕ) → R x ≡ true → x ≢ s → turn (from x) < turn j → 0 < room n (cap (via x)) (thr (via x)) (out (via x)) (inn (via x)) → sum n (out′ (via x)) ≡ sum n (out (via x))
+    pub unused : (x : ℕ) → R x ≡ true → X x ≡ false → turn (from x) < turn j → 0 < room n (cap (via x)) (thr (via x)) (out (via x)) (inn (via x)) → sum n (out′ (via x)) ≡ sum n (out (via x))
     pub held : R j ≡ true
     pub enough : d ≤ width j
 
-module _ {n m : ℕ} {cap : ℕ → ℕ → ℕ} {thr : ℕ → ℕ} {out inn : ℕ → ℕ → ℕ} {s : ℕ} {R : ℕ → Bool} {from via turn width : ℕ → ℕ} where
-  pub push-start : {t k d : ℕ} → Flow n m cap thr out inn s t k → t ≢ s → R t ≡ true → d ≤ width t → Pushing n m cap thr out inn s R from via turn width t k d out inn t
+module _ {n m : ℕ} {cap : ℕ → ℕ → ℕ} {thr : ℕ → ℕ} {out inn : ℕ → ℕ → ℕ} {X : ℕ → Bool} {R : ℕ → Bool} {from via turn width : ℕ → ℕ} where
+  pub push-start : {t k d : ℕ} → FlowFrom n m cap thr out inn X t k → X t ≡ false → R t ≡ true → d ≤ width t → Pushing n m cap thr out inn X R from via turn width t k d out inn t
   push-start {t} {k} {d} f ne r le = record {
     column = f .column;
-    net = net;
+    net = λ x b nx nt. omega (arith, f .through x b nx nt, at-other t d x nt);
+    source = omega (arith, f .source, at-off n X d ne);
     fresh-out = λ x b l c h. refl;
     fresh-inn = λ x b l c h. refl;
     more-out = λ c h. omega arith;
@@ -47,20 +140,18 @@ module _ {n m : ℕ} {cap : ℕ → ℕ → ℕ} {thr : ℕ → ℕ} {out inn : 
     held = r;
     enough = le;
   }
-    where
-      net : (x : ℕ) → x < n → x ≢ t → sum m (λ c. out c x) ≡ at s k x + at t d x + sum m (λ c. inn c x)
-      net x b nt = ⊎-elim (λ e. rw e (omega (arith, f .source, at-same s k, at-other t d s (λ q. ne (sym q))))) (λ q. omega (arith, f .through x b q nt, at-other s k x q, at-other t d x nt)) (same? x s)
 
-  pub push-end : {out′ inn′ : ℕ → ℕ → ℕ} {t k d : ℕ} → Pushing n m cap thr out inn s R from via turn width t k d out′ inn′ s → s < n → t ≢ s → Flow n m cap thr out′ inn′ s t (k + d)
-  push-end {t = t} {k = k} {d = d} p b ne = record {
+  -- It ends at a taxon of X.
+  pub push-end : {out′ inn′ : ℕ → ℕ → ℕ} {t k d j : ℕ} → Pushing n m cap thr out inn X R from via turn width t k d out′ inn′ j → j < n → X j ≡ true → FlowFrom n m cap thr out′ inn′ X t (k + d)
+  push-end {t = t} {k = k} {d = d} {j = j} p b h = record {
     column = p .column;
-    through = λ x bx ns nt. omega (arith, p .net x bx nt, at-other s k x ns, at-other s d x ns);
-    source = omega (arith, p .net s b (λ e. ne (sym e)), at-same s k, at-same s d);
+    through = λ x bx nx nt. omega (arith, p .net x bx nx nt, at-other j d x (λ e. true≢false (sym h ∙ ap X (sym e) ∙ nx)));
+    source = omega (arith, p .source, at-in n X d b h);
   }
 
-  module _ {out′ inn′ : ℕ → ℕ → ℕ} {t k d j : ℕ} (tree : Tree n m cap thr out inn s R from via turn width)
-      (p : Pushing n m cap thr out inn s R from via turn width t k d out′ inn′ j) (ns : j ≢ s) where
-    l : Link n m cap thr out inn s R from via turn width j
+  module _ {out′ inn′ : ℕ → ℕ → ℕ} {t k d j : ℕ} (tree : Tree n m cap thr out inn X R from via turn width)
+      (p : Pushing n m cap thr out inn X R from via turn width t k d out′ inn′ j) (ns : X j ≡ false) where
+    l : Link n m cap thr out inn X R from via turn width j
     l = tree .link j (p .held) ns
 
     abbrev c : ℕ
@@ -110,31 +201,6 @@ module _ {n m : ℕ} {cap : ℕ → ℕ → ℕ} {thr : ℕ → ℕ} {out inn : 
     turned = omega (arith, carried, carry-most n (cap c) (thr c) (out c) (inn c) i j, room-kept, i-inn c (l .via-m), p .more-out c (l .via-m))
 
     module _ {out″ inn″ : ℕ → ℕ → ℕ} (h : Hopped n m out′ inn′ out″ inn″ (via j) (from j) j d) where
-      column : (e : ℕ) → e < m → ColumnFlow n (cap e) (thr e) (out″ e) (inn″ e)
-      column e b = ⊎-elim (λ q. rw q (moved col (l .from-n) bj (h .here) apart sends takes turned)) (λ q. same-column (p .column e b) (h .rest-out e b q) (h .rest-inn e b q)) (same? e c)
-
-      -- The sums of a taxon's entries, but for those of column c.
-      all-out : (x : ℕ) → x < n → sum m (λ e. out″ e x) + out′ c x ≡ sum m (λ e. out′ e x) + out″ c x
-      all-out x b = sum-but m {g = λ e. out″ e x} {h = λ e. out′ e x} (l .via-m) (λ e be q. h .rest-out e be q x b)
-
-      all-inn : (x : ℕ) → x < n → sum m (λ e. inn″ e x) + inn′ c x ≡ sum m (λ e. inn′ e x) + inn″ c x
-      all-inn x b = sum-but m {g = λ e. inn″ e x} {h = λ e. inn′ e x} (l .via-m) (λ e be q. h .rest-inn e be q x b)
-
-      net : (x : ℕ) → x < n → x ≢ t → sum m (λ e. out″ e x) ≡ at s k x + at i d x + sum m (λ e. inn″ e x)
-      net x b nt = ⊎-elim at-i (λ u. ⊎-elim (at-j u) (other u) (same? x j)) (same? x i)
-        where
-          at-i : x ≡ i → sum m (λ e. out″ e x) ≡ at s k x + at i d x + sum m (λ e. inn″ e x)
-          at-i e =
-              let q : x ≢ j = λ f. apart (sym e ∙ f) in
-              omega (arith, all-out x b, all-inn x b, p .net x b nt, at-other j d x q, ap (at i d) e, at-same i d, ap (out′ c) e, ap (inn′ c) e, ap (out″ c) e, ap (inn″ c) e, h .here .from-out, h .here .from-inn)
-
-          at-j : x ≢ i → x ≡ j → sum m (λ e. out″ e x) ≡ at s k x + at i d x + sum m (λ e. inn″ e x)
-          at-j u e =
-              omega (arith, all-out x b, all-inn x b, p .net x b nt, at-other i d x u, ap (at j d) e, at-same j d, ap (out′ c) e, ap (inn′ c) e, ap (out″ c) e, ap (inn″ c) e, h .here .to-out, h .here .to-inn)
-
-          other : x ≢ i → x ≢ j → sum m (λ e. out″ e x) ≡ at s k x + at i d x + sum m (λ e. inn″ e x)
-          other u v = omega (arith, all-out x b, all-inn x b, p .net x b nt, at-other i d x u, at-other j d x v, h .here .rest-out x b u v, h .here .rest-inn x b u v)
-
       -- A taxon before i is neither i nor j.
       before-i : (x : ℕ) → turn x < turn i → (x ≢ i) × (x ≢ j)
       before-i x q = (λ e. omega (arith, ap turn e), λ e. omega (arith, ap turn e, l .earlier))
@@ -156,16 +222,17 @@ module _ {n m : ℕ} {cap : ℕ → ℕ → ℕ} {thr : ℕ → ℕ} {out inn : 
       less-inn e b = ⊎-elim (λ f. rw f (omega (arith, h .here .from-inn, i-inn c (l .via-m)))) (λ f. omega (arith, h .rest-inn e b f i (l .from-n), i-inn e b)) (same? e c)
 
       -- A column with room that is still ahead is not c: all that it reached have one source.
-      unused : (x : ℕ) → R x ≡ true → x ≢ s → turn (from x) < turn i → 0 < room n (cap (via x)) (thr (via x)) (out (via x)) (inn (via x)) → sum n (out″ (via x)) ≡ sum n (out (via x))
+      unused : (x : ℕ) → R x ≡ true → X x ≡ false → turn (from x) < turn i → 0 < room n (cap (via x)) (thr (via x)) (out (via x)) (inn (via x)) → sum n (out″ (via x)) ≡ sum n (out (via x))
       unused x r q b f = sum-≡ n {g = out″ (via x)} {h = out′ (via x)} (λ y by. h .rest-out (via x) (tree .link x r q .via-m) other y by) ∙ p .unused x r q (omega (arith, l .earlier)) f
         where
           other : via x ≢ c
           other e = omega (arith, ap turn (tree .shared x j r (p .held) q ns e f))
 
-      pub push-step : Pushing n m cap thr out inn s R from via turn width t k d out″ inn″ (from j)
+      pub push-step : Pushing n m cap thr out inn X R from via turn width t k d out″ inn″ (from j)
       push-step = record {
-        column = column;
-        net = net;
+        column = hop-columns (l .via-m) (l .from-n) bj apart h (p .column) sends takes turned;
+        net = λ x b nx nt. omega (arith, hop-net (l .via-m) (l .from-n) bj apart h x b, p .net x b nx nt);
+        source = omega (arith, hop-net-from (l .via-m) (l .from-n) bj apart h X, p .source);
         fresh-out = fresh-out;
         fresh-inn = fresh-inn;
         more-out = more-out;

@@ -2,20 +2,17 @@
 use Prim.Native.Nat.{ℕ, zero, suc, _≤_, _<_, min}
 use mathlib.Core.Path.{_≡_, refl, sym, ap, _∙_}
 use mathlib.Core.Bool.{Bool, true, false, not, cond, true≢false}
-use mathlib.Core.Logic.{_≢_, _⊎_, inl, inr, ⊎-elim, by-cases}
+use mathlib.Core.Logic.{_⊎_, inl, inr, ⊎-elim, by-cases}
 use native.Mathlib.Decide.{decLt}
 use native.Mathlib.Omega.{arith}
 use Rattle.taxa.specs.Sum.{sum, inside, outside}
 use Rattle.taxa.proofs.Sums.{sum-0, sum-some, sum-<, term-≤}
 use Rattle.taxa.proofs.Insides.{inside-pos, inside-term}
+use Rattle.method.proofs.Sources.{true?}
 use Rattle.method.proofs.Carry.{same?, put, put-at, put-off}
 use Rattle.method.proofs.HopTree.{carries, Tree, Shut, Growing, Joined, join}
 
 -- ---- sets by their tests
-
-pub true? : (b : Bool) → (b ≡ true) ⊎ (b ≡ false)
-true? true = inl refl
-true? false = inr refl
 
 -- A set with one taxon more holds it, what it held, and nothing else.
 put-in : (D : ℕ → Bool) (i x : ℕ) → (x ≡ i) ⊎ (D x ≡ true) → put D i true x ≡ true
@@ -24,13 +21,6 @@ put-in D i x (inr d) = ⊎-elim (λ e. rw e (put-at D i true)) (λ ne. put-off D
 
 in-put : (D : ℕ → Bool) (i x : ℕ) → put D i true x ≡ true → (x ≡ i) ⊎ (D x ≡ true)
 in-put D i x h = ⊎-elim inl (λ ne. inr (sym (put-off D i true x ne) ∙ h)) (same? x i)
-
--- The set of taxon s alone.
-abbrev pub only : ℕ → ℕ → Bool
-only s = put (λ x. false) s true
-
-only-is : (s : ℕ) {x : ℕ} → only s x ≡ true → x ≡ s
-only-is s {x} h = ⊎-elim (λ e. e) (λ f. absurd (true≢false (sym f))) (in-put (λ x. false) s x h)
 
 -- 1 for what is not in a set.
 abbrev unless : Bool → ℕ
@@ -55,20 +45,20 @@ pub record Notes : Type 0 where
   pub turn : ℕ → ℕ
   pub width : ℕ → ℕ
 
-module _ (n m : ℕ) (cap : ℕ → ℕ → ℕ) (thr : ℕ → ℕ) (out inn : ℕ → ℕ → ℕ) (s : ℕ) where
+module _ (n m : ℕ) (cap : ℕ → ℕ → ℕ) (thr : ℕ → ℕ) (out inn : ℕ → ℕ → ℕ) (X : ℕ → Bool) where
   abbrev carried : ℕ → ℕ → ℕ → ℕ
   carried = carries n m cap thr out inn
 
   abbrev pub TreeOf : Notes → Type 0
-  TreeOf r = Tree n m cap thr out inn s (r .set) (r .from) (r .via) (r .turn) (r .width)
+  TreeOf r = Tree n m cap thr out inn X (r .set) (r .from) (r .via) (r .turn) (r .width)
 
   abbrev pub ShutIn : Notes → (ℕ → Bool) → Type 0
-  ShutIn r = Shut n m cap thr out inn s (r .set) (r .from) (r .via) (r .turn) (r .width)
+  ShutIn r = Shut n m cap thr out inn X (r .set) (r .from) (r .via) (r .turn) (r .width)
 
   -- Taxon i is being looked at, and its hops to the taxa below b have been.
   record Looking (D : ℕ → Bool) (i T b : ℕ) : Type 0 where
     notes : Notes
-    growing : Growing n m cap thr out inn s (notes .set) (notes .from) (notes .via) (notes .turn) (notes .width) D i T
+    growing : Growing n m cap thr out inn X (notes .set) (notes .from) (notes .via) (notes .turn) (notes .width) D i T
     seen : (x : ℕ) → x < b → (c : ℕ) → c < m → 0 < carried c i x → notes .set x ≡ true
 
   -- The taxa of D have been looked at.
@@ -77,11 +67,11 @@ module _ (n m : ℕ) (cap : ℕ → ℕ → ℕ) (thr : ℕ → ℕ) (out inn : 
     last : ℕ
     tree : TreeOf notes
     done : ShutIn notes D
-    sources : (x : ℕ) → notes .set x ≡ true → x ≢ s → D (notes .from x) ≡ true
+    sources : (x : ℕ) → notes .set x ≡ true → X x ≡ false → D (notes .from x) ≡ true
     turns : (x : ℕ) → notes .set x ≡ true → notes .turn x ≤ last
 
   pub some-width : (r : Notes) → TreeOf r → (i : ℕ) → r .set i ≡ true → 0 < r .width i
-  some-width r t i h = ⊎-elim (λ e. rw e (t .wide)) (λ ne. t .link i h ne .some) (same? i s)
+  some-width r t i h = ⊎-elim (t .wide i) (λ ne. t .link i h ne .some) (true? (X i))
 
   -- One taxon more: it joins if it is new and some hop from i leads to it.
   look-at : {D : ℕ → Bool} {i T : ℕ} (b : ℕ) → b < n → Looking D i T b → Looking D i T (suc b)
@@ -100,11 +90,11 @@ module _ (n m : ℕ) (cap : ℕ → ℕ → ℕ) (thr : ℕ → ℕ) (out inn : 
       joins : old .set b ≡ false → (c : ℕ) × (c < m) × (0 < hops c) → Looking D i T (suc b)
       joins r (c, bc, p) = record {
         notes = record { set = put (old .set) b true; from = put (old .from) b i; via = put (old .via) b c; turn = put (old .turn) b T; width = put (old .width) b w };
-        growing = join g joined r bn bc (omega (arith, some-width old (g .tree) i (g .held))) (omega arith) (omega arith) (λ e. true≢false (sym (g .tree .root) ∙ ap (old .set) (sym e) ∙ r));
+        growing = join g joined r bn bc (omega (arith, some-width old (g .tree) i (g .held))) (omega arith) (omega arith);
         seen = λ x bx e be q. put-in (old .set) b x (⊎-elim inl (λ ne. inr (l .seen x (omega arith) e be q)) (same? x b));
       }
         where
-          g : Growing n m cap thr out inn s (old .set) (old .from) (old .via) (old .turn) (old .width) D i T
+          g : Growing n m cap thr out inn X (old .set) (old .from) (old .via) (old .turn) (old .width) D i T
           g = l .growing
 
           w : ℕ
@@ -189,19 +179,19 @@ module _ (n m : ℕ) (cap : ℕ → ℕ → ℕ) (thr : ℕ → ℕ) (out inn : 
       waits : (y : ℕ) → p .notes .set y ≡ true → D y ≡ false → 0 < sum n (inside (p .notes .set) (outside D (λ x. 1)))
       waits y r d = omega (arith, inside-term n (p .notes .set) (outside D (λ x. 1)) (p .tree .low y r) r, ap unless d)
 
-  pub spanned : s < n → Spanned
-  spanned bs = spread (suc (waiting (λ x. false))) (λ x. false) (omega arith) (record {
-    notes = record { set = only s; from = λ x. 0; via = λ x. 0; turn = λ x. 0; width = λ x. 1 };
+  pub spanned : ((x : ℕ) → X x ≡ true → x < n) → Spanned
+  spanned low = spread (suc (waiting (λ x. false))) (λ x. false) (omega arith) (record {
+    notes = record { set = X; from = λ x. 0; via = λ x. 0; turn = λ x. 0; width = λ x. 1 };
     last = 0;
     tree = record {
-      root = put-at (λ x. false) s true;
-      first = refl;
-      wide = omega arith;
-      low = λ j r. rw (only-is s r) bs;
-      link = λ j r ne. absurd (ne (only-is s r));
-      shared = λ x y r q ne nf e p. absurd (ne (only-is s r));
+      root = λ x h. h;
+      first = λ x h. refl;
+      wide = λ x h. omega arith;
+      low = low;
+      link = λ j r ne. absurd (true≢false (sym r ∙ ne));
+      shared = λ x y r q ne nf e p. absurd (true≢false (sym r ∙ ne));
     };
     done = λ y d. absurd (true≢false (sym d));
-    sources = λ x r ne. absurd (ne (only-is s r));
+    sources = λ x r ne. absurd (true≢false (sym r ∙ ne));
     turns = λ x r. omega arith;
   })

@@ -2,7 +2,7 @@
 -- with room that someone came through gives to nobody more (`Sweeping`), so that those who came through it have one source. Which taxon is to send: one
 -- whose hop leads wherever a hop of the others leads (`leads-open`, `leads-full`).
 use Prim.Native.Nat.{ℕ, _+_, _≤_, _<_, max}
-use mathlib.Core.Path.{_≡_, sym, ap, _∙_}
+use mathlib.Core.Path.{_≡_, sym, _∙_}
 use mathlib.Core.Bool.{Bool, true, false, true≢false}
 use mathlib.Core.Logic.{_≢_, _⊎_, inl, inr, ⊎-elim}
 use native.Mathlib.Omega.{arith}
@@ -33,44 +33,44 @@ module _ (n : ℕ) (cap : ℕ → ℕ) (thr : ℕ) (out inn : ℕ → ℕ) (i y 
 
 -- ---- the tree
 
-module _ (n m : ℕ) (cap : ℕ → ℕ → ℕ) (thr : ℕ → ℕ) (out inn : ℕ → ℕ → ℕ) (s : ℕ) (R : ℕ → Bool) (from via turn width : ℕ → ℕ) where
+module _ (n m : ℕ) (cap : ℕ → ℕ → ℕ) (thr : ℕ → ℕ) (out inn : ℕ → ℕ → ℕ) (X : ℕ → Bool) (R : ℕ → Bool) (from via turn width : ℕ → ℕ) where
   -- All taxa that column c can still give to are in the tree.
   abbrev pub Given : ℕ → Type 0
   Given c = (j : ℕ) → j < n → 0 < down n (cap c) (thr c) (out c) (inn c) j → R j ≡ true
 
   -- A tree of N taxa.
   pub record Sweeping (N : ℕ) : Type 0 where
-    pub tree : Tree n m cap thr out inn s R from via turn width
+    pub tree : Tree n m cap thr out inn X R from via turn width
     pub turns : (x : ℕ) → R x ≡ true → turn x < N
-    pub spent : (x : ℕ) → R x ≡ true → x ≢ s → 0 < rooms n m cap thr out inn (via x) → Given (via x)
+    pub spent : (x : ℕ) → R x ≡ true → X x ≡ false → 0 < rooms n m cap thr out inn (via x) → Given (via x)
 
   -- The same while taxon i sends through column c; taxa that join get the turn T.
   pub record Sending (i c T N : ℕ) : Type 0 where
-    pub tree : Tree n m cap thr out inn s R from via turn width
+    pub tree : Tree n m cap thr out inn X R from via turn width
     pub held : R i ≡ true
     pub turn-i : turn i < T
     pub above : T ≤ N
     pub turns : (x : ℕ) → R x ≡ true → turn x < N
-    pub spent : (x : ℕ) → R x ≡ true → x ≢ s → 0 < rooms n m cap thr out inn (via x) → Given (via x) ⊎ ((via x ≡ c) × (from x ≡ i))
+    pub spent : (x : ℕ) → R x ≡ true → X x ≡ false → 0 < rooms n m cap thr out inn (via x) → Given (via x) ⊎ ((via x ≡ c) × (from x ≡ i))
 
-module _ {n m : ℕ} {cap : ℕ → ℕ → ℕ} {thr : ℕ → ℕ} {out inn : ℕ → ℕ → ℕ} {s : ℕ} {R : ℕ → Bool} {from via turn width : ℕ → ℕ} {i c : ℕ} where
-  pub send-start : {N : ℕ} → Sweeping n m cap thr out inn s R from via turn width N → R i ≡ true → Sending n m cap thr out inn s R from via turn width i c N N
+module _ {n m : ℕ} {cap : ℕ → ℕ → ℕ} {thr : ℕ → ℕ} {out inn : ℕ → ℕ → ℕ} {X : ℕ → Bool} {R : ℕ → Bool} {from via turn width : ℕ → ℕ} {i c : ℕ} where
+  pub send-start : {N : ℕ} → Sweeping n m cap thr out inn X R from via turn width N → R i ≡ true → Sending n m cap thr out inn X R from via turn width i c N N
   send-start g h = record { tree = g .tree; held = h; turn-i = g .turns i h; above = omega arith; turns = g .turns; spent = λ x r ne p. inl (g .spent x r ne p) }
 
   -- Once all that the hops of i lead to have joined.
-  pub send-end : {T N : ℕ} → Sending n m cap thr out inn s R from via turn width i c T N → ((j : ℕ) → j < n → 0 < carries n m cap thr out inn c i j → R j ≡ true)
-      → Sweeping n m cap thr out inn s R from via turn width N
+  pub send-end : {T N : ℕ} → Sending n m cap thr out inn X R from via turn width i c T N → ((j : ℕ) → j < n → 0 < carries n m cap thr out inn c i j → R j ≡ true)
+      → Sweeping n m cap thr out inn X R from via turn width N
   send-end g into = record { tree = g .tree; turns = g .turns; spent = spent }
     where
-      spent : (x : ℕ) → R x ≡ true → x ≢ s → 0 < rooms n m cap thr out inn (via x) → Given n m cap thr out inn s R from via turn width (via x)
+      spent : (x : ℕ) → R x ≡ true → X x ≡ false → 0 < rooms n m cap thr out inn (via x) → Given n m cap thr out inn X R from via turn width (via x)
       spent x r ne p = ⊎-elim (λ h. h) (λ h j b d. into j b (rw (h .1) at (gives (g .tree .link x r ne) (h .0) (rw (h .0) at p) j (rw (h .0) at d)))) (g .spent x r ne p)
 
   module _ {R′ : ℕ → Bool} {from′ via′ turn′ width′ : ℕ → ℕ} {T N j w : ℕ}
-      (g : Sending n m cap thr out inn s R from via turn width i c T N)
+      (g : Sending n m cap thr out inn X R from via turn width i c T N)
       (jd : Joined R R′ from via turn width from′ via′ turn′ width′ j i c T w)
       (new : R j ≡ false) (bj : j < n) (bc : c < m) (pos : 0 < w) (le : w ≤ carry n (cap c) (thr c) (out c) (inn c) i j) (nar : w ≤ width i) where
     -- Those reached through this column, if it has room, were reached from i: else it gave to nobody more.
-    one-from : (x : ℕ) → R x ≡ true → x ≢ s → via x ≡ c → 0 < room n (cap c) (thr c) (out c) (inn c) → from x ≡ i
+    one-from : (x : ℕ) → R x ≡ true → X x ≡ false → via x ≡ c → 0 < room n (cap c) (thr c) (out c) (inn c) → from x ≡ i
     one-from x r ne e p =
         ⊎-elim
         (λ h. absurd (true≢false (sym (h j bj (rw e (takes (g .tree) (g .held) (g .turn-i) jd new bj bc pos le nar))) ∙ new)))
@@ -88,17 +88,17 @@ module _ {n m : ℕ} {cap : ℕ → ℕ → ℕ} {thr : ℕ → ℕ} {out inn : 
 
     -- What is said of a taxon's column and source.
     Spent : ℕ → Type 0
-    Spent x = x ≢ s → 0 < rooms n m cap thr out inn (via′ x) → Given n m cap thr out inn s R′ from′ via′ turn′ width′ (via′ x) ⊎ ((via′ x ≡ c) × (from′ x ≡ i))
+    Spent x = X x ≡ false → 0 < rooms n m cap thr out inn (via′ x) → Given n m cap thr out inn X R′ from′ via′ turn′ width′ (via′ x) ⊎ ((via′ x ≡ c) × (from′ x ≡ i))
 
     old-spent : (x : ℕ) → R x ≡ true → Spent x
     unfolding Spent
     old-spent x r ne =
         rw (jd .via-off x (off x r), jd .from-off x (off x r)) (λ p. ⊎-elim (λ h. inl (λ k b d. send-keeps k (h k b d))) inr (g .spent x r ne p))
 
-    pub send-join : j ≢ s → Sending n m cap thr out inn s R′ from′ via′ turn′ width′ i c T (N + 1)
+    pub send-join : Sending n m cap thr out inn X R′ from′ via′ turn′ width′ i c T (N + 1)
     unfolding Spent
-    send-join ns = record {
-      tree = join-tree (g .tree) (g .held) (g .turn-i) jd new bj bc pos le nar one-from ns;
+    send-join = record {
+      tree = join-tree (g .tree) (g .held) (g .turn-i) jd new bj bc pos le nar one-from;
       held = send-keeps i (g .held);
       turn-i = omega (arith, jd .turn-off i (off i (g .held)), g .turn-i);
       above = omega (arith, g .above);

@@ -2,3 +2,4 @@
 pub mod Split
 pub mod Tree
 pub mod Flow
+pub mod Sources
