@@ -1,7 +1,7 @@
 -- Flows in the workspace: what a step of a path leaves, and that a flow is small.
 use Prim.Native.Nat.{ℕ, _+_, _-_, _*_, _^_, _≤_, _<_}
 use mathlib.Core.Path.{_≡_, refl, sym, ap, _∙_}
-use mathlib.Core.Bool.{Bool, true, false, cond, true≢false}
+use mathlib.Core.Bool.{Bool, true, false, not, cond, true≢false}
 use mathlib.Core.List.{List}
 use mathlib.Core.Logic.{_≢_, ⊎-elim}
 use native.Mathlib.Nat.{mul-le-mul-right}
@@ -9,21 +9,29 @@ use native.Mathlib.Omega.{arith}
 use lib.IntN.{ℤ}
 use lib.ListN.{length, set, replicate, length-set, getD-replicate}
 use lib.Seq.{getD-set-same, getD-set-other}
-use Rattle.taxa.specs.Sum.{sum}
+use Rattle.taxa.specs.Sum.{sum, ∁, inside, outside}
 use Rattle.taxa.specs.Sets.{has}
 use Rattle.taxa.proofs.Sums.{sum-≡, sum-none, sum-bound, term-≤}
-use Rattle.taxa.proofs.Members.{pow-in}
+use Rattle.taxa.proofs.Insides.{cond-≡}
+use Rattle.taxa.proofs.Members.{below, pow-in}
+use Rattle.method.specs.Flow.{cut}
 use Rattle.search.specs.Workspace.{outs, inns, cleared, Kept, CanHop}
 use Rattle.method.proofs.Carry.{Hopped, Moved}
 use Rattle.method.proofs.HopTree.{Tree, Link}
 use Rattle.search.specs.Network.{nth, caps, Unused, Net, Ready}
-use Rattle.search.specs.Reaching.{fromOf, viaOf, turnOf, widthOf, Found}
+use Rattle.search.specs.Reaching.{fromOf, viaOf, turnOf, widthOf, carried, Found}
 use Rattle.search.specs.Flows.{CanCount, Counted, Flowing, Advanced}
 use Rattle.search.proofs.Workspace.{kept-none, kept-then, cleared-kept, out-0, inn-0}
+use Rattle.method.proofs.Sources.{true?, only, only-alone, alone-off, inside-alone}
+use Rattle.method.proofs.Cuts.{weak-from}
 use Rattle.method.proofs.Carry.{same?, sum-two}
-use Rattle.method.proofs.Path.{Pushing, push-start, push-step, push-end, apart, sends, takes}
+use Rattle.method.proofs.Path.{direct-sends, direct-takes, direct, Pushing, push-start, push-step, push-end, apart, sends, takes}
 
 -- ---- sizes
+
+twice : (b : Bool) (x : ℕ) → cond (not (not b)) x 0 ≡ cond b x 0
+twice true x = refl
+twice false x = refl
 
 cond-lt : (b : Bool) {w k : ℕ} → w < k → cond b w 0 < k
 cond-lt true h = h
@@ -34,15 +42,24 @@ unfolding caps
 caps-small {W} {J} z c b i = cond-lt (has (nth J c) i) (z .light c b)
 
 module _ {W J L : List ℕ} {n m : ℕ} {ws : List ℤ} {U : List ℕ} where
-  -- "256 x 65,535": a flow is at most what its source can send.
-  pub size-small : {s t k : ℕ} → Flowing W J L n m ws U s t k → k ≤ 16776960
-  size-small {s} f =
+  -- "256 x 65,535": a flow is at most what its sink can take, which is what the set of all other taxa costs at most.
+  pub size-small : {X t k : ℕ} → Flowing W J L n m ws U X t k → k ≤ 16776960
+  size-small {X} {t} f =
       omega (
         arith,
-        f .flow .source,
-        sum-bound m 65535 {g = λ c. outs ws n c s} (λ c b. omega (arith, f .flow .column c b .out-fits s (f .source), caps-small (f .ready .net) c b s)),
+        weak-from n m (caps W J) (nth L) (outs ws n) (inns ws n) (f .flow) others in-others (ap not (only-alone t .held)),
+        sum-bound m 65535 {g = λ c. cut n (caps W J c) (nth L c) others} (λ c b. omega (arith, taken c, caps-small (f .ready .net) c b t)),
         mul-le-mul-right 65535 (f .ready .net .columns),
       )
+    where
+      others : ℕ → Bool
+      others = ∁ (only t)
+
+      in-others : (i : ℕ) → has X i ≡ true → others i ≡ true
+      in-others i h = ap not (alone-off (only-alone t) i (λ e. true≢false (sym h ∙ ap (has X) e ∙ f .apart)))
+
+      taken : (c : ℕ) → sum n (outside others (caps W J c)) ≡ caps W J c t
+      taken c = sum-≡ n (λ i b. twice (only t i) (caps W J c i)) ∙ inside-alone (only-alone t) (f .sink) (caps W J c)
 
   sum-small : Ready W J L n m ws U → (c : ℕ) → c < m → sum n (outs ws n c) ≤ 4194240
   sum-small r c b =
@@ -63,20 +80,72 @@ entries-few {n} {ws = ws} {c = c} h k = (omega (arith, k .is, k .few, term-≤ n
 pub counted : (n : ℕ) {ws′ : List ℤ} (U : List ℕ) (c : ℕ) {v : ℕ} → length U ≡ 256 → c < 256 → v ≡ sum n (outs ws′ n c) → Counted n ws′ U (set U c v) c
 counted n U c {v} l b e = record { counts = length-set U c v ∙ l; is = getD-set-same U c v 0 (omega arith) ∙ e; rest = λ x ne. getD-set-other U c x v 0 ne }
 
+-- ---- one hop
+
+module _ {W J L : List ℕ} {n m : ℕ} {ws : List ℤ} {U : List ℕ} (r : Ready W J L n m ws U) {c i j d : ℕ} (bc : c < m) (bi : i < n) (bj : j < n) (ne : i ≢ j) where
+  -- What it asks: room at both taxa.
+  pub hop-asks : outs ws n c i + d ≤ caps W J c i + inns ws n c i → inns ws n c j + d ≤ caps W J c j + outs ws n c j → CanHop ws n m c i j d × CanCount n ws U c d
+  hop-asks up down =
+      let col = r .column c bc in
+      let z = r .net in (
+        record {
+          places = r .places;
+          column = bc;
+          from = bi;
+          to = bj;
+          apart = ne;
+          out = omega (arith, up, col .inn-fits i bi, caps-small z c bc i);
+          inn = omega (arith, down, col .out-fits j bj, caps-small z c bc j);
+        },
+        record {
+          column = omega (arith, z .columns);
+          counts = r .counts;
+          is = r .sums c bc;
+          few = omega (arith, r .sums c bc, sum-small r c bc);
+          little = omega (arith, up, col .inn-fits i bi, caps-small z c bc i);
+        },
+      )
+
+  -- What it leaves.
+  pub hop-sums : {ws′ : List ℤ} {U′ : List ℕ} → Hopped n m (outs ws n) (inns ws n) (outs ws′ n) (inns ws′ n) c i j d → Counted n ws′ U U′ c → (e : ℕ) → e < m → nth U′ e ≡ sum n (outs ws′ n e)
+  hop-sums {ws′} h q e b = ⊎-elim (λ f. rw f (q .is)) (λ f. q .rest e f ∙ r .sums e b ∙ sym (sum-≡ n {g = outs ws′ n e} {h = outs ws n e} (h .rest-out e b f))) (same? e c)
+
+-- Straight from a source to t.
+module _ {W J L : List ℕ} {n m : ℕ} {ws : List ℤ} {U : List ℕ} {X t k : ℕ} (f : Flowing W J L n m ws U X t k) {c i d : ℕ} (bc : c < m) (x : has X i ≡ true) (le : d ≤ carried W J L n ws c i t) where
+  bi : i < n
+  bi = below n (f .sources) (record { is = x })
+
+  ne : i ≢ t
+  ne e = true≢false (sym x ∙ ap (has X) e ∙ f .apart)
+
+  pub direct-asks : CanHop ws n m c i t d × CanCount n ws U c d
+  direct-asks = hop-asks (f .ready) bc bi (f .sink) ne (direct-sends (f .flow) bi (f .sink) bc le) (direct-takes (f .flow) bi (f .sink) bc le)
+
+  pub direct-flow : {ws′ : List ℤ} {U′ : List ℕ} → Hopped n m (outs ws n) (inns ws n) (outs ws′ n) (inns ws′ n) c i t d → Kept (n * m) ws ws′ → Counted n ws′ U U′ c → Flowing W J L n m ws′ U′ X t (k + d)
+  direct-flow h e q =
+      let g = direct (f .flow) bi (f .sink) bc le x (f .apart) h in
+      record {
+        ready = record { net = f .ready .net; places = omega (arith, f .ready .places, e .long); counts = q .counts; column = g .column; sums = hop-sums (f .ready) bc bi (f .sink) ne h q };
+        flow = g;
+        sources = f .sources;
+        sink = f .sink;
+        apart = f .apart;
+      }
+
 -- ---- one path
 
-module _ (W J L : List ℕ) (n m : ℕ) (ws₀ : List ℤ) (U₀ : List ℕ) (s t k a : ℕ) (Y : List ℕ) (d : ℕ) where
+module _ (W J L : List ℕ) (n m : ℕ) (ws₀ : List ℤ) (U₀ : List ℕ) (X t k a : ℕ) (Y : List ℕ) (d : ℕ) where
   -- The path from t back to j has been pushed.
   pub record Under (ws : List ℤ) (U : List ℕ) (j : ℕ) : Type 0 where
-    pub before : Flowing W J L n m ws₀ U₀ s t k
-    pub tree : Tree n m (caps W J) (nth L) (outs ws₀ n) (inns ws₀ n) s (has a) (fromOf Y) (viaOf Y) (turnOf Y) (widthOf Y)
-    pub push : Pushing n m (caps W J) (nth L) (outs ws₀ n) (inns ws₀ n) s (has a) (fromOf Y) (viaOf Y) (turnOf Y) (widthOf Y) t k d (outs ws n) (inns ws n) j
+    pub before : Flowing W J L n m ws₀ U₀ X t k
+    pub tree : Tree n m (caps W J) (nth L) (outs ws₀ n) (inns ws₀ n) (has X) (has a) (fromOf Y) (viaOf Y) (turnOf Y) (widthOf Y)
+    pub push : Pushing n m (caps W J) (nth L) (outs ws₀ n) (inns ws₀ n) (has X) (has a) (fromOf Y) (viaOf Y) (turnOf Y) (widthOf Y) t k d (outs ws n) (inns ws n) j
     pub sums : (c : ℕ) → c < m → nth U c ≡ sum n (outs ws n c)
     pub counts : length U ≡ 256
     pub kept : Kept (n * m) ws₀ ws
 
-module _ {W J L : List ℕ} {n m : ℕ} {ws₀ : List ℤ} {U₀ : List ℕ} {s t k a : ℕ} {Y : List ℕ} {d : ℕ} where
-  pub under-start : {goal : ℕ} → Flowing W J L n m ws₀ U₀ s t k → Found W J L n m ws₀ s a Y goal → has a t ≡ true → d ≤ widthOf Y t → Under W J L n m ws₀ U₀ s t k a Y d ws₀ U₀ t
+module _ {W J L : List ℕ} {n m : ℕ} {ws₀ : List ℤ} {U₀ : List ℕ} {X t k a : ℕ} {Y : List ℕ} {d : ℕ} where
+  pub under-start : {goal : ℕ} → Flowing W J L n m ws₀ U₀ X t k → Found W J L n m ws₀ X a Y goal → has a t ≡ true → d ≤ widthOf Y t → Under W J L n m ws₀ U₀ X t k a Y d ws₀ U₀ t
   under-start f r h l = record {
     before = f;
     tree = r .tree;
@@ -86,65 +155,43 @@ module _ {W J L : List ℕ} {n m : ℕ} {ws₀ : List ℤ} {U₀ : List ℕ} {s 
     kept = kept-none (n * m) ws₀;
   }
 
-  module _ {ws : List ℤ} {U : List ℕ} {j : ℕ} (u : Under W J L n m ws₀ U₀ s t k a Y d ws U j) where
+  module _ {ws : List ℤ} {U : List ℕ} {j : ℕ} (u : Under W J L n m ws₀ U₀ X t k a Y d ws U j) where
     pub under-low : j < 64
     under-low = omega (arith, u .tree .low j (u .push .held), u .before .ready .net .taxa)
 
     ready : Ready W J L n m ws U
     ready = record { net = u .before .ready .net; places = omega (arith, u .before .ready .places, u .kept .long); counts = u .counts; column = u .push .column; sums = u .sums }
 
-    -- s alone has turn 0.
-    pub not-root : 0 < turnOf Y j → j ≢ s
-    not-root p e = omega (arith, u .tree .first, ap (turnOf Y) e)
+    -- The sources alone have turn 0.
+    pub not-root : 0 < turnOf Y j → has X j ≡ false
+    not-root p = ⊎-elim (λ h. absurd (omega (arith, u .tree .first j h))) (λ h. h) (true? (has X j))
 
-    pub is-root : turnOf Y j ≡ 0 → j ≡ s
-    is-root p = ⊎-elim (λ e. e) (λ ne. absurd (omega (arith, u .tree .link j (u .push .held) ne .earlier))) (same? j s)
+    pub is-root : turnOf Y j ≡ 0 → has X j ≡ true
+    is-root p = ⊎-elim (λ h. h) (λ ne. absurd (omega (arith, u .tree .link j (u .push .held) ne .earlier))) (true? (has X j))
 
-    module _ (ne : j ≢ s) where
-      link : Link n m (caps W J) (nth L) (outs ws₀ n) (inns ws₀ n) s (has a) (fromOf Y) (viaOf Y) (turnOf Y) (widthOf Y) j
+    module _ (ne : has X j ≡ false) where
+      link : Link n m (caps W J) (nth L) (outs ws₀ n) (inns ws₀ n) (has X) (has a) (fromOf Y) (viaOf Y) (turnOf Y) (widthOf Y) j
       link = u .tree .link j (u .push .held) ne
 
       pub under-turn : turnOf Y (fromOf Y j) < turnOf Y j
       under-turn = link .earlier
 
       pub can-hop : CanHop ws n m (viaOf Y j) (fromOf Y j) j d × CanCount n ws U (viaOf Y j) d
-      can-hop =
-          let c = viaOf Y j in
-          let col = u .push .column c (link .via-m) in
-          let z = u .before .ready .net in
-          let bj = u .tree .low j (u .push .held) in
-          let up = sends (u .tree) (u .push) ne in (
-            record {
-              places = ready .places;
-              column = link .via-m;
-              from = link .from-n;
-              to = bj;
-              apart = apart (u .tree) (u .push) ne;
-              out = omega (arith, up, col .inn-fits (fromOf Y j) (link .from-n), caps-small z c (link .via-m) (fromOf Y j));
-              inn = omega (arith, takes (u .tree) (u .push) ne, col .out-fits j bj, caps-small z c (link .via-m) j);
-            },
-            record {
-              column = omega (arith, link .via-m, z .columns);
-              counts = u .counts;
-              is = u .sums c (link .via-m);
-              few = omega (arith, u .sums c (link .via-m), sum-small ready c (link .via-m));
-              little = omega (arith, up, col .inn-fits (fromOf Y j) (link .from-n), caps-small z c (link .via-m) (fromOf Y j));
-            },
-          )
+      can-hop = hop-asks ready (link .via-m) (link .from-n) (u .tree .low j (u .push .held)) (apart (u .tree) (u .push) ne) (sends (u .tree) (u .push) ne) (takes (u .tree) (u .push) ne)
 
       pub under-step : {ws′ : List ℤ} {U′ : List ℕ} → Hopped n m (outs ws n) (inns ws n) (outs ws′ n) (inns ws′ n) (viaOf Y j) (fromOf Y j) j d → Kept (n * m) ws ws′ → Counted n ws′ U U′ (viaOf Y j)
-          → Under W J L n m ws₀ U₀ s t k a Y d ws′ U′ (fromOf Y j)
+          → Under W J L n m ws₀ U₀ X t k a Y d ws′ U′ (fromOf Y j)
       under-step {ws′} {U′} h e q = record {
         before = u .before;
         tree = u .tree;
         push = push-step (u .tree) (u .push) ne h;
-        sums = λ c b. ⊎-elim (λ f. rw f (q .is)) (λ f. q .rest c f ∙ u .sums c b ∙ sym (sum-≡ n {g = outs ws′ n c} {h = outs ws n c} (h .rest-out c b f))) (same? c (viaOf Y j));
+        sums = hop-sums ready (link .via-m) (link .from-n) (u .tree .low j (u .push .held)) (apart (u .tree) (u .push) ne) h q;
         counts = q .counts;
         kept = kept-then (u .kept) e;
       }
 
-  pub under-end : {ws : List ℤ} {U : List ℕ} → Under W J L n m ws₀ U₀ s t k a Y d ws U s → Flowing W J L n m ws U s t (k + d)
-  under-end u = record { ready = ready u; flow = push-end (u .push) (u .before .source) (u .before .apart); source = u .before .source; sink = u .before .sink; apart = u .before .apart }
+  pub under-end : {ws : List ℤ} {U : List ℕ} {j : ℕ} → Under W J L n m ws₀ U₀ X t k a Y d ws U j → has X j ≡ true → Flowing W J L n m ws U X t (k + d)
+  under-end {j = j} u h = record { ready = ready u; flow = push-end (u .push) (u .tree .low j (u .push .held)) h; sources = u .before .sources; sink = u .before .sink; apart = u .before .apart }
 
 -- ---- no flow, in a cleared workspace
 
@@ -170,13 +217,13 @@ module _ {W J L : List ℕ} {n m : ℕ} (z : Net W J L n m) (ws : List ℤ) (pla
       none : (c : ℕ) → c < m → sum n (outs (cleared (n * m) ws) n c) ≡ 0
       none c b = sum-none n (λ i bi. out-0 n m ws c i b bi)
 
-  pub no-flow : {s t : ℕ} → s < n → t < n → t ≢ s → Flowing W J L n m (cleared (n * m) ws) U s t 0
-  no-flow {s} {t} bs bt ne = record {
+  pub no-flow : {X t : ℕ} → X < 2 ^ n → t < n → has X t ≡ false → Flowing W J L n m (cleared (n * m) ws) U X t 0
+  no-flow {X} {t} fits bt off = record {
     ready = no-ready;
-    flow = record { column = no-ready .column; through = λ i bi p q. all i bi; source = omega (arith, all s bs) };
-    source = bs;
+    flow = record { column = no-ready .column; through = λ i bi p q. all i bi; source = omega (arith, sum-≡ n {g = inside (has X) (λ i. sum m (λ c. outs (cleared (n * m) ws) n c i))} {h = inside (has X) (λ i. sum m (λ c. inns (cleared (n * m) ws) n c i))} (λ i bi. cond-≡ (has X i) (λ h. all i bi))) };
+    sources = fits;
     sink = bt;
-    apart = ne;
+    apart = off;
   }
     where
       all : (i : ℕ) → i < n → sum m (λ c. outs (cleared (n * m) ws) n c i) ≡ sum m (λ c. inns (cleared (n * m) ws) n c i)
@@ -184,16 +231,16 @@ module _ {W J L : List ℕ} {n m : ℕ} (z : Net W J L n m) (ws : List ℤ) (pla
 
 -- ---- t was not reached, or the path to it was pushed
 
-module _ {W J L : List ℕ} {n m : ℕ} {s t k a : ℕ} where
-  pub stayed : {ws : List ℤ} {U Y : List ℕ} {goal : ℕ} → Flowing W J L n m ws U s t k → Found W J L n m ws s a Y goal → goal ≡ 2 ^ t → has a t ≡ false → Advanced W J L n m ws U s t k k a
+module _ {W J L : List ℕ} {n m : ℕ} {X t k a : ℕ} where
+  pub stayed : {ws : List ℤ} {U Y : List ℕ} {goal : ℕ} → Flowing W J L n m ws U X t k → Found W J L n m ws X a Y goal → goal ≡ 2 ^ t → has a t ≡ false → Advanced W J L n m ws U X t k k a
   stayed f r e h = record {
     stage = record { flowing = f; side = λ q. record { low = r .tree .low; all = r .all (record { none = λ x p. ap (has a) (pow-in t (record { is = ap (λ (y : ℕ). has y x) (sym e) ∙ p })) ∙ h }) } };
     more = omega arith;
     pushed = λ q. absurd (true≢false (sym q ∙ h));
   }
 
-  pub went : {ws₀ ws : List ℤ} {U₀ U Y : List ℕ} {d : ℕ} → Under W J L n m ws₀ U₀ s t k a Y d ws U s → has a t ≡ true → 0 < d → Advanced W J L n m ws U s t k (k + d) a
-  went u h p = record { stage = record { flowing = under-end u; side = λ q. absurd (true≢false (sym h ∙ q)) }; more = omega arith; pushed = λ q. omega arith }
+  pub went : {ws₀ ws : List ℤ} {U₀ U Y : List ℕ} {d j : ℕ} → Under W J L n m ws₀ U₀ X t k a Y d ws U j → has X j ≡ true → has a t ≡ true → 0 < d → Advanced W J L n m ws U X t k (k + d) a
+  went u e h p = record { stage = record { flowing = under-end u e; side = λ q. absurd (true≢false (sym h ∙ q)) }; more = omega arith; pushed = λ q. omega arith }
 
 -- Each path makes the flow larger, or is the last.
 pub rest-of : ℕ → Bool → ℕ

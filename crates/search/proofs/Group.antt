@@ -1,26 +1,28 @@
--- The search of a group: a largest flow to each other taxon in turn, the least of them, and that it names what listing names.
+-- The search of a group: a largest flow to each taxon in turn from those below it, the least of them, and that it names what listing names.
 use Prim.Native.Nat.{ℕ, _+_, _-_, _*_, _^_, _≤_, _<_}
 use mathlib.Core.Path.{_≡_, refl, sym, ap, _∙_}
 use mathlib.Core.Bool.{Bool, true, false, not, cond, true≢false}
 use mathlib.Core.List.{List}
-use mathlib.Core.Logic.{_≢_, _⊎_, ⊎-elim}
+use mathlib.Core.Logic.{_≢_, ⊎-elim, _↔_}
 use native.Mathlib.Nat.{mul-le-mul-left}
 use native.Mathlib.Decide.{decLt}
 use native.Mathlib.Omega.{arith}
 use lib.Dec.{ltb}
 use lib.IntN.{ℤ}
 use lib.ListN.{length}
-use lib.Pow.{pow-mono}
+use lib.Pow.{pow-mono, pow-lt}
 use borrow.Author.Tests.{lt-ltb, le-ltb, ltb-true}
 use Rattle.taxa.specs.Sum.{∁}
 use Rattle.taxa.specs.Sets.{has, all, _∈_, _∉_, _⊆_, _∩_, _∖_, count, low}
 use Rattle.taxa.proofs.Sums.{sum-≤}
 use Rattle.taxa.proofs.Insides.{inside-term}
-use Rattle.taxa.proofs.Members.{all-<, out, in∩, in∖, ∩-≤, in-remove, none, below, low-in, low-≤, low-width, ⊆-≤, ∖-⊆}
+use Rattle.taxa.proofs.Members.{all-<, in-all, in-pow, pow-in, out, in∩, in∖, ∩-≤, in-remove, none, below, low-in, low-≤, low-width, ⊆-≤, ∖-⊆}
 use Rattle.taxa.proofs.Counts.{count-pos, count-remove, count-width}
 use Rattle.method.specs.Split.{Division, divisionCost, side}
 use Rattle.method.specs.Flow.{joined, cap, through, cut as cutIn, cutCost, Flow, Reach, start, step}
-use Rattle.method.proofs.Cuts.{weak, min-cut, MinCut}
+use Rattle.method.specs.Sources.{FlowFrom}
+use Rattle.method.proofs.Sources.{true?, Alone, alone-off, as-one, reach-one, one-reach}
+use Rattle.method.proofs.Cuts.{weak-from, full-from, weak, min-cut, MinCut}
 use Rattle.method.proofs.Cuts as cuts
 use Rattle.method.proofs.Listing.{Search, search-side}
 use Rattle.method.proofs.Network.{network-cost}
@@ -30,40 +32,35 @@ use Rattle.search.specs.Flows.{Side, Largest}
 use Rattle.search.specs.Search.{colsOf, Given, capsOf, throughOf, DividedByFlow}
 use Rattle.search.specs.Trying.{Joins, Limits, tie, ties, costs, Parts, Tried}
 use Rattle.method.proofs.Carry.{same?}
-use Rattle.method.proofs.Spread.{true?}
 use Rattle.search.proofs.Reaching.{caps-in, in-caps, off-none}
 use Rattle.search.proofs.Flows.{none-used, no-flow}
 use Rattle.search.proofs.Same.{same-cost, same-flow, same-reach}
 
 -- ---- what one largest flow says
 
--- A largest flow stands in the workspace, and A is what hops reach past it.
-pub record Stands (W J L : List ℕ) (n m : ℕ) (ws : List ℤ) (s t k A : ℕ) : Type 0 where
-  pub flow : Flow n m (caps W J) (nth L) (outs ws n) (inns ws n) s t k
-  pub side : Side W J L n m ws s A
+-- A largest flow from the taxa of X to t stands in the workspace, and A is what hops reach past it.
+pub record Stands (W J L : List ℕ) (n m : ℕ) (ws : List ℤ) (X t k A : ℕ) : Type 0 where
+  pub flow : FlowFrom n m (caps W J) (nth L) (outs ws n) (inns ws n) (has X) t k
+  pub side : Side W J L n m ws X A
   pub parts : has A t ≡ false
 
-at-most : (W J L : List ℕ) {n m : ℕ} (ws : List ℤ) {s t k : ℕ} → s < n → Flow n m (caps W J) (nth L) (outs ws n) (inns ws n) s t k → (D : ℕ → Bool) → D s ≡ true → D t ≡ false → k ≤ costs W J L n m D
-at-most W J L {n} {m} ws bs f D u v = weak n m (caps W J) (nth L) (outs ws n) (inns ws n) f bs D u v
+at-most : (W J L : List ℕ) {n m : ℕ} (ws : List ℤ) (X : ℕ) {t k : ℕ} → FlowFrom n m (caps W J) (nth L) (outs ws n) (inns ws n) (has X) t k → (D : ℕ → Bool) → ((i : ℕ) → has X i ≡ true → D i ≡ true) → D t ≡ false → k ≤ costs W J L n m D
+at-most W J L {n} {m} ws X f D u v = weak-from n m (caps W J) (nth L) (outs ws n) (inns ws n) f D u v
 
-module _ {W J L : List ℕ} {n m : ℕ} {ws : List ℤ} {s t : ℕ} (bs : s < n) where
+module _ {W J L : List ℕ} {n m : ℕ} {ws : List ℤ} {X t : ℕ} where
   -- Below the bound it is a largest flow.
-  pub stands : {bound k A : ℕ} → Largest W J L n m ws s t bound k A → k < bound → Stands W J L n m ws s t k A
+  pub stands : {bound k A : ℕ} → Largest W J L n m ws X t bound k A → k < bound → Stands W J L n m ws X t k A
   stands {bound} {k} {A} r l = record { flow = r .flow; side = r .side off; parts = off }
     where
-      go : (b : Bool) → has A t ≡ b → has A t ≡ false
-      go true e = absurd (omega (arith, r .stops e))
-      go false e = e
-
       off : has A t ≡ false
-      off = go (has A t) refl
+      off = ⊎-elim (λ e. absurd (omega (arith, r .stops e))) (λ e. e) (true? (has A t))
 
-  module _ {k A : ℕ} (r : Stands W J L n m ws s t k A) where
-    cut : (k ≡ cutCost n m (caps W J) (nth L) (has A)) × MinCut n m (caps W J) (nth L) (outs ws n) (inns ws n) s t (has A)
-    cut = min-cut n m (caps W J) (nth L) (outs ws n) (inns ws n) (r .flow) bs (has A) (r .side .all) (r .parts)
-
-    pub stand-parts : (S : ℕ) → has S t ≡ true → Parts W J L n m S s k t
-    stand-parts S h = record { other = h; set = A; with-s = r .side .all s bs .1 start; off-b = r .parts; costs-k = cut .0 }
+  -- The taxa reached are a set with X and without t that costs as much.
+  pub stand-parts : {k A : ℕ} → X < 2 ^ n → Stands W J L n m ws X t k A → (S : ℕ) {s : ℕ} → has X s ≡ true → has S t ≡ true → Parts W J L n m S s k t
+  stand-parts {k} {A} fits r S {s} x h = record { other = h; set = A; with-s = held s x; off-b = r .parts; costs-k = full-from n m (caps W J) (nth L) (outs ws n) (inns ws n) (r .flow) (has A) held (r .parts) (r .side .all) }
+    where
+      held : (i : ℕ) → has X i ≡ true → has A i ≡ true
+      held i q = r .side .all i (below n fits (record { is = q })) .1 (i, q, start)
 
 -- ---- what a taxon is tied to costs
 
@@ -98,6 +95,22 @@ module _ {W J L : List ℕ} {n m : ℕ} (z : Net W J L n m) (D : ℕ → Bool) {
 
 -- ---- the taxa one after the other
 
+-- The taxa of S below u, as sources.
+pub lower-fits : (S : ℕ) {u n : ℕ} → u < n → S ∩ all u < 2 ^ n
+lower-fits S {u} {n} b = omega (arith, ∩-≤ S (all u), all-< u, pow-mono {i = u} {j = n} (omega arith))
+
+pub lower-off : (S u : ℕ) → has (S ∩ all u) u ≡ false
+lower-off S u = out (λ h. let b : u < u = below u (all-< u) (in∩ S (all u) .0 h .1) in omega arith)
+
+pub lower-in : (S : ℕ) {s u : ℕ} → has S s ≡ true → s < u → has (S ∩ all u) s ≡ true
+lower-in S {s} {u} h l = in∩ S (all u) .1 (record { is = h }, in-all u l) .is
+
+pow-alone : (s : ℕ) → Alone (has (2 ^ s)) s
+pow-alone s = record { held = in-pow s .is; one = λ x h. pow-in s (record { is = h }) }
+
+pub pow-off : {s t : ℕ} → t ≢ s → has (2 ^ s) t ≡ false
+pow-off {s} {t} ne = alone-off (pow-alone s) t ne
+
 clash : (D : ℕ → Bool) (i j : ℕ) → D i ≡ true → D j ≡ false → i ≢ j
 clash D i j p q e = true≢false (sym p ∙ ap D e ∙ q)
 
@@ -106,11 +119,11 @@ module _ {W J L : List ℕ} {n m S s : ℕ} where
   parted-off {b = b} r e = clash (has (r .best .set)) s b (r .best .with-s) (r .best .off-b) (sym e)
 
   -- The first: no taxon of S but s is below t.
-  pub tried-one : {ws : List ℤ} {k t A : ℕ} → s < n → has S t ≡ true → ((i : ℕ) → has S i ≡ true → i ≢ s → t ≤ i) → Stands W J L n m ws s t k A → Tried W J L n m S s (t + 1) k t
+  pub tried-one : {ws : List ℤ} {k t A : ℕ} → s < n → has S t ≡ true → ((i : ℕ) → has S i ≡ true → i ≢ s → t ≤ i) → Stands W J L n m ws (2 ^ s) t k A → Tried W J L n m S s (t + 1) k t
   tried-one {ws} {k} {t} bs h lo r = record {
-    best = stand-parts bs r S h;
+    best = stand-parts (pow-lt bs) r S (in-pow s .is) h;
     below = omega arith;
-    least = λ D i u v h b. let e : i ≡ t = omega (arith, lo i h (λ q. clash D s i u v (sym q))) in at-most W J L ws bs (r .flow) D u (ap D (sym e) ∙ v);
+    least = λ D i u v h b. let e : i ≡ t = omega (arith, lo i h (λ q. clash D s i u v (sym q))) in at-most W J L ws (2 ^ s) (r .flow) D (λ x q. ap D (pow-in s (record { is = q })) ∙ u) (ap D (sym e) ∙ v);
     first = λ D i u v h b. absurd (omega (arith, lo i h (λ q. clash D s i u v (sym q))));
   }
 
@@ -122,56 +135,67 @@ module _ {W J L : List ℕ} {n m S s : ℕ} where
     first = r .first;
   }
 
-  -- The sets that hold all taxa of S below u cost what ties u to those at least, and the others have been tried.
-  pub tried-tied : {u k b : ℕ} → Tried W J L n m S s u k b → Net W J L n m → u < n → k ≤ ties W J m (S ∩ all u) u → Tried W J L n m S s (u + 1) k b
-  tried-tied {u} {k} r z bu le = record {
-    best = r .best;
-    below = omega (arith, r .below);
-    least = λ D i p q h b. ⊎-elim (λ f. enough D p (ap D (sym f) ∙ q) (decLt (costs W J L n m D) k)) (λ ne. r .least D i p q h (omega arith)) (same? i u);
-    first = r .first;
-  }
-    where
-      holds : (D : ℕ → Bool) → D s ≡ true → costs W J L n m D < k → (i : ℕ) → i ∈ S ∩ all u → D i ≡ true
-      holds D p l i h =
-          let (a, b) = in∩ S (all u) .0 h in
-          ⊎-elim (λ e. e) (λ e. absurd (omega (arith, r .least D i p e (a .is) (below u (all-< u) b)))) (true? (D i))
+  module _ {u k b : ℕ} (r : Tried W J L n m S s u k b) where
+    -- Whoever costs less than the best holds all taxa of S below u.
+    holds : (D : ℕ → Bool) → D s ≡ true → costs W J L n m D < k → (i : ℕ) → i ∈ S ∩ all u → D i ≡ true
+    holds D p l i h =
+        let (a, b) = in∩ S (all u) .0 h in
+        ⊎-elim (λ e. e) (λ e. absurd (omega (arith, r .least D i p e (a .is) (below u (all-< u) b)))) (true? (D i))
 
-      enough : (D : ℕ → Bool) → D s ≡ true → D u ≡ false → Dec (costs W J L n m D < k) → k ≤ costs W J L n m D
-      enough D p q (yes l) = omega (arith, ties-≤ z D bu (omega (arith, ∩-≤ S (all u), all-< u)) (holds D p l) q)
-      enough D p q (no l) = omega arith
+    -- No set with all of those, and without u, costs less than k′.
+    abbrev Bounds : ℕ → Type 0
+    Bounds k′ = (D : ℕ → Bool) → ((i : ℕ) → i ∈ S ∩ all u → D i ≡ true) → D u ≡ false → k′ ≤ costs W J L n m D
 
-  module _ {ws : List ℤ} {u k b k′ A : ℕ} (r : Tried W J L n m S s u k b) (bs : s < n) (l : Largest W J L n m ws s u k k′ A) where
-    pub tried-better : has S u ≡ true → k′ < k → Tried W J L n m S s (u + 1) k′ u
-    tried-better h lt = record {
-      best = stand-parts bs (stands bs l lt) S h;
-      below = omega arith;
-      least = λ D i p q h b. ⊎-elim (λ f. at-most W J L ws bs (l .flow) D p (ap D (sym f) ∙ q)) (λ ne. omega (arith, r .least D i p q h (omega arith))) (same? i u);
-      first = λ D i p q h b. omega (arith, r .least D i p q h b);
-    }
+    -- Then no set that parts u, or a taxon below it, costs less, if the best does not.
+    still-least : {k′ : ℕ} → k′ ≤ k → Bounds k′ → (D : ℕ → Bool) (i : ℕ) → D s ≡ true → D i ≡ false → has S i ≡ true → i < u + 1 → k′ ≤ costs W J L n m D
+    still-least {k′} le at D i p q h b = ⊎-elim (λ e. here e (decLt (costs W J L n m D) k)) (λ ne. omega (arith, r .least D i p q h (omega arith))) (same? i u)
+      where
+        here : i ≡ u → Dec (costs W J L n m D < k) → k′ ≤ costs W J L n m D
+        here e (yes l) = at D (holds D p l) (ap D (sym e) ∙ q)
+        here e (no l) = omega arith
 
-    pub tried-worse : k ≤ k′ → Tried W J L n m S s (u + 1) k b
-    tried-worse le = record {
-      best = r .best;
-      below = omega (arith, r .below);
-      least = λ D i p q h b. ⊎-elim (λ f. omega (arith, at-most W J L ws bs (l .flow) D p (ap D (sym f) ∙ q))) (λ ne. r .least D i p q h (omega arith)) (same? i u);
-      first = r .first;
-    }
+    -- The best stays where that holds of it,
+    stays : Bounds k → Tried W J L n m S s (u + 1) k b
+    stays at = record { best = r .best; below = omega (arith, r .below); least = still-least (omega arith) at; first = r .first }
+
+    -- as where u is tied fast to those taxa,
+    pub tried-tied : Net W J L n m → u < n → k ≤ ties W J m (S ∩ all u) u → Tried W J L n m S s (u + 1) k b
+    tried-tied z bu le = stays (λ D h q. omega (arith, ties-≤ z D bu (omega (arith, ∩-≤ S (all u), all-< u)) h q))
+
+    module _ {ws : List ℤ} {k′ A : ℕ} (l : Largest W J L n m ws (S ∩ all u) u k k′ A) where
+      at-flow : Bounds k′
+      at-flow D h q = at-most W J L ws (S ∩ all u) (l .flow) D (λ i x. h i (record { is = x })) q
+
+      -- or a flow from them is no smaller.
+      pub tried-worse : k ≤ k′ → Tried W J L n m S s (u + 1) k b
+      tried-worse le = stays (λ D h q. omega (arith, at-flow D h q))
+
+      pub tried-better : u < n → has (S ∩ all u) s ≡ true → has S u ≡ true → k′ < k → Tried W J L n m S s (u + 1) k′ u
+      tried-better bu hs h lt = record {
+        best = stand-parts (lower-fits S bu) (stands l lt) S hs h;
+        below = omega arith;
+        least = still-least (omega arith) at-flow;
+        first = λ D i p q h b. omega (arith, r .least D i p q h b);
+      }
 
 -- ---- no flow is needed: b is the first taxon of S that hops do not reach past none
 
-module _ {W J L : List ℕ} {n m s : ℕ} (S : ℕ) (z : Net W J L n m) (ws : List ℤ) (places : n * m ≤ length ws) (bs : s < n) {A b : ℕ} (d : Side W J L n m (cleared (n * m) ws) s A)
+module _ {W J L : List ℕ} {n m s : ℕ} (S : ℕ) (z : Net W J L n m) (ws : List ℤ) (places : n * m ≤ length ws) (bs : s < n) {A b : ℕ} (d : Side W J L n m (cleared (n * m) ws) (2 ^ s) A)
     (bb : b < n) (h : has S b ≡ true) (off : has A b ≡ false) (lo : (i : ℕ) → i < b → has S i ≡ true → has A i ≡ true) where
-  pub free-stands : Stands W J L n m (cleared (n * m) ws) s b 0 A
-  free-stands = record { flow = no-flow z ws places (none-used (z .columns)) bs bb (λ e. clash (has A) s b (d .all s bs .1 start) off (sym e)) .flow; side = d; parts = off }
+  none-from : {i : ℕ} → i < n → i ≢ s → FlowFrom n m (caps W J) (nth L) (outs (cleared (n * m) ws) n) (inns (cleared (n * m) ws) n) (has (2 ^ s)) i 0
+  none-from {i} bi ne = no-flow z ws places (none-used (z .columns)) (pow-lt bs) bi (pow-off ne) .flow
+
+  pub free-stands : Stands W J L n m (cleared (n * m) ws) (2 ^ s) b 0 A
+  free-stands = record { flow = none-from bb (λ e. clash (has A) s b (d .all s bs .1 (one-reach (pow-alone s) start)) off (sym e)); side = d; parts = off }
 
   pub tried-free : Tried W J L n m S s n 0 b
-  tried-free = record { best = stand-parts bs free-stands S h; below = bb; least = λ D i p q k l. omega arith; first = λ D i p q k l. some D i p q k l (decLt 0 (costs W J L n m D)) }
+  tried-free = record { best = stand-parts (pow-lt bs) free-stands S (in-pow s .is) h; below = bb; least = λ D i p q k l. omega arith; first = λ D i p q k l. some D i p q k l (decLt 0 (costs W J L n m D)) }
     where
       some : (D : ℕ → Bool) (i : ℕ) → D s ≡ true → D i ≡ false → has S i ≡ true → i < b → Dec (0 < costs W J L n m D) → 0 < costs W J L n m D
       some D i p q k l (yes c) = c
       some D i p q k l (no c) =
-          let f = no-flow z ws places (none-used (z .columns)) bs (omega arith) (λ e. clash D s i p q (sym e)) .flow in
-          let r = d .all i (omega arith) .0 (lo i l k) in
+          let f = as-one (pow-alone s) bs (none-from (omega arith) (λ e. clash D s i p q (sym e))) in
+          let r = reach-one (pow-alone s) (d .all i (omega arith) .0 (lo i l k)) in
           absurd (true≢false (sym (cuts.least n m (caps W J) (nth L) (outs (cleared (n * m) ws) n) (inns (cleared (n * m) ws) n) f bs D p q (omega arith) r) ∙ q))
 
 -- ---- the lowest taxa of a group
@@ -183,32 +207,29 @@ pub record Second (S n s t : ℕ) : Type 0 where
   pub in-t : has S t ≡ true
   pub others : (i : ℕ) → has S i ≡ true → i ≢ s → t ≤ i
 
-module _ (n : ℕ) {S s r : ℕ} (l : n ≤ 64) (f : S < 2 ^ n) (two : 1 < count n S) (e : s ≡ low n S) (q : r ≡ S ∖ 2 ^ low 64 S) where
+module _ (n : ℕ) {S r : ℕ} (l : n ≤ 64) (f : S < 2 ^ n) (two : 1 < count n S) (q : r ≡ S ∖ 2 ^ low 64 S) where
   some-S : 0 < S
   some-S = count-pos n (omega arith)
 
-  rest-is : r ≡ S ∖ 2 ^ s
-  rest-is = q ∙ ap (λ (x : ℕ). S ∖ 2 ^ x) (sym (low-width l some-S f) ∙ sym e)
-
-  s-low : s ∈ S
-  s-low = rw e (low-in n some-S f)
+  rest-is : r ≡ S ∖ 2 ^ low n S
+  rest-is = q ∙ ap (λ (x : ℕ). S ∖ 2 ^ x) (sym (low-width l some-S f))
 
   pub some-rest : 0 < r
-  some-rest = rw rest-is (count-pos n (omega (arith, count-remove n (below n f s-low) s-low)))
+  some-rest = let s = low-in n some-S f in rw rest-is (count-pos n (omega (arith, count-remove n (below n f s) s)))
 
-  pub second : {t : ℕ} → t ≡ low 64 r → t ∈ r → Second S n s t
+  pub second : {t : ℕ} → t ≡ low 64 r → t ∈ r → Second S n (low n S) t
   second {t} u h = record {
     small = below n f (p .0);
     order = omega (arith, p .1, low-≤ n f (p .0));
     in-t = p .0 .is;
-    others = λ i k ne. rw u (low-≤ 64 small (rw rest-is (in-remove S s .1 (record { is = k }, ne))));
+    others = λ i k ne. rw u (low-≤ 64 small (rw rest-is (in-remove S (low n S) .1 (record { is = k }, ne))));
   }
     where
-      p : (t ∈ S) × (t ≢ s)
-      p = in-remove S s .0 (rw rest-is at h)
+      p : (t ∈ S) × (t ≢ low n S)
+      p = in-remove S (low n S) .0 (rw rest-is at h)
 
       small : r < 2 ^ 64
-      small = rw rest-is (omega (arith, ⊆-≤ (∖-⊆ S (2 ^ s)), pow-mono l))
+      small = rw rest-is (omega (arith, ⊆-≤ (∖-⊆ S (2 ^ low n S)), pow-mono l))
 
 -- ---- the network of the group
 
@@ -259,12 +280,12 @@ module _ {W O Z : List ℕ} {S n m : ℕ} (g : Given W O Z S n m) {J L : List �
   reach-in ws h start = h
   reach-in ws h (step {j = x} c r bc bx p) = joins-in c bc x (in-caps W J c x (omega (arith, p .down)))
 
-  side-in : {ws : List ℤ} {s A : ℕ} → has S s ≡ true → Side W J L n m ws s A → A ⊆ S
-  side-in {ws} {s} {A} h d = record { sub = λ {i} p. record { is = reach-in ws h (d .all i (d .low i (p .is)) .0 (p .is)) } }
+  side-in : {ws : List ℤ} (s : ℕ) {A : ℕ} → has S s ≡ true → Side W J L n m ws (2 ^ s) A → A ⊆ S
+  side-in {ws} s {A} h d = record { sub = λ {i} p. record { is = reach-in ws h (reach-one (pow-alone s) (d .all i (d .low i (p .is)) .0 (p .is))) } }
 
   -- ---- what was found is the split by listing
 
-  module _ {ws : List ℤ} {k k′ b A : ℕ} (r : Tried W J L n m S (low n S) n k b) (d : Stands W J L n m ws (low n S) b k′ A) where
+  module _ {ws : List ℤ} {k k′ b A : ℕ} (r : Tried W J L n m S (low n S) n k b) (d : Stands W J L n m ws (2 ^ low n S) b k′ A) where
     s-in : low n S ∈ S
     s-in = low-in n (count-pos n (omega (arith, g .two))) (g .group)
 
@@ -272,10 +293,20 @@ module _ {W O Z : List ℕ} {S n m : ℕ} (g : Given W O Z S n m) {J L : List �
     bs = below n (g .group) s-in
 
     inner : A ⊆ S
-    inner = side-in (s-in .is) (d .side)
+    inner = side-in (low n S) (s-in .is) (d .side)
+
+    -- The flow and the taxa reached, of s alone.
+    flow : Flow n m (caps W J) (nth L) (outs ws n) (inns ws n) (low n S) b k′
+    flow = as-one (pow-alone (low n S)) bs (d .flow)
+
+    hops : (i : ℕ) → i < n → has A i ≡ true ↔ Reach n m (caps W J) (nth L) (outs ws n) (inns ws n) (low n S) i
+    hops i bi = (λ h. reach-one (pow-alone (low n S)) (d .side .all i bi .0 h), λ h. d .side .all i bi .1 (one-reach (pow-alone (low n S)) h))
+
+    cut : (k′ ≡ cutCost n m (caps W J) (nth L) (has A)) × MinCut n m (caps W J) (nth L) (outs ws n) (inns ws n) (low n S) b (has A)
+    cut = min-cut n m (caps W J) (nth L) (outs ws n) (inns ws n) flow bs (has A) hops (d .parts)
 
     with-s : has A (low n S) ≡ true
-    with-s = d .side .all (low n S) bs .1 start
+    with-s = hops (low n S) bs .1 start
 
     b-in : has S b ≡ true
     b-in = r .best .other
@@ -286,13 +317,13 @@ module _ {W O Z : List ℕ} {S n m : ℕ} (g : Given W O Z S n m) {J L : List �
         omega (
           arith,
           r .least (has A) b with-s (d .parts) b-in (below n (g .group) (record { is = b-in })),
-          cut bs d .0,
-          at-most W J L ws bs (d .flow) (has (r .best .set)) (r .best .with-s) (r .best .off-b),
+          cut .0,
+          weak n m (caps W J) (nth L) (outs ws n) (inns ws n) flow bs (has (r .best .set)) (r .best .with-s) (r .best .off-b),
           r .best .costs-k,
         )
 
     is-cost : k′ ≡ divisionCost n m (colsOf W O Z) S A
-    is-cost = cut bs d .0 ∙ cost-is A inner
+    is-cost = cut .0 ∙ cost-is A inner
 
     -- A bound below the flow to each taxon is enough.
     size : ℕ → ℕ
@@ -325,27 +356,27 @@ module _ {W O Z : List ℕ} {S n m : ℕ} (g : Given W O Z S n m) {J L : List �
       weak = λ D i v h. weaker D i v h (decLt i b);
       least = λ D i v h. omega (arith, at-b, at-least i (decLt i b));
       first = λ D i v h l. omega (arith, at-b, size-below i l);
-      inner = λ D v h f. record { sub = λ {i} x. record { is = cut bs d .1 .smallest (has D) (v .lowest .is) (out (in∖ S D .0 h .1)) (cost-is D (v .inside) ∙ f ∙ sym is-cost ∙ cut bs d .0) i (below n (g .group) (inner .sub x)) (x .is) } };
+      inner = λ D v h f. record { sub = λ {i} x. record { is = cut .1 .smallest (has D) (v .lowest .is) (out (in∖ S D .0 h .1)) (cost-is D (v .inside) ∙ f ∙ sym is-cost ∙ cut .0) i (below n (g .group) (inner .sub x)) (x .is) } };
     }
 
     pub divided : DividedByFlow W O Z S n m ws k′ b A
     divided =
         let q = search-side n m (colsOf W O Z) S (g .group) (g .two) found in
         record {
-          flow = same-flow n caps-is through-is (d .flow);
-          reached = λ i bi. (λ h. same-reach n caps-is through-is (d .side .all i bi .0 h), λ h. d .side .all i bi .1 (same-reach n (λ c b. sym (caps-is c b)) (λ c b. sym (through-is c b)) h));
+          flow = same-flow n caps-is through-is flow;
+          reached = λ i bi. (λ h. same-reach n caps-is through-is (hops i bi .0 h), λ h. hops i bi .1 (same-reach n (λ c b. sym (caps-is c b)) (λ c b. sym (through-is c b)) h));
           is-side = q .0;
           is-cost = is-cost;
           is-parted = q .1;
         }
 
   -- The same where no flow is needed: b is the lowest taxon of S that hops do not reach past none.
-  pub divided-free : (ws : List ℤ) {ws′ : List ℤ} {s A off b : ℕ} → Net W J L n m → n * m ≤ length ws → s ≡ low n S → Side W J L n m ws′ s A → ws′ ≡ cleared (n * m) ws → off ≡ S ∖ A → b ≡ low 64 off → b ∈ off
+  pub divided-free : (ws : List ℤ) {ws′ : List ℤ} {A off b : ℕ} → Net W J L n m → n * m ≤ length ws → Side W J L n m ws′ (2 ^ low n S) A → ws′ ≡ cleared (n * m) ws → off ≡ S ∖ A → b ≡ low 64 off → b ∈ off
       → DividedByFlow W O Z S n m ws′ 0 b A
-  divided-free ws {ws′} {s} {A} {off} {b} z places e d q o u h = rw q (divided (tried-free S z ws places bs d′ bb (p .0 .is) (out (p .1)) lo) (free-stands S z ws places bs d′ bb (p .0 .is) (out (p .1)) lo))
+  divided-free ws {ws′} {A} {off} {b} z places d q o u h = rw q (divided (tried-free S z ws places bs d′ bb (p .0 .is) (out (p .1)) lo) (free-stands S z ws places bs d′ bb (p .0 .is) (out (p .1)) lo))
     where
-      d′ : Side W J L n m (cleared (n * m) ws) (low n S) A
-      d′ = rw (e, q) at d
+      d′ : Side W J L n m (cleared (n * m) ws) (2 ^ low n S) A
+      d′ = rw q at d
 
       bs : low n S < n
       bs = below n (g .group) (low-in n (count-pos n (omega (arith, g .two))) (g .group))

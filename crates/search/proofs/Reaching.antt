@@ -10,8 +10,8 @@ use lib.ListN.{length, set, length-set}
 use lib.Seq.{getD-set-same, getD-set-other}
 use Rattle.taxa.specs.Sets.{has, all, _⊆_, _∩_, _∪_, _∖_, count}
 use Rattle.taxa.proofs.Digits.{has-none}
-use Rattle.taxa.proofs.Counts.{count-insert, count-pow}
-use Rattle.taxa.proofs.Members.{in-insert, in-remove, in-pow, pow-in, in∩, in∖, out, same-bool, disjoint-∩, ∩-disjoint, ⊆-refl, ⊆-≤, in-all}
+use Rattle.taxa.proofs.Counts.{count-in, count-insert}
+use Rattle.taxa.proofs.Members.{below, in-insert, in-remove, in∩, in∖, out, same-bool, disjoint-∩, ∩-disjoint, ⊆-refl, ⊆-≤, in-all}
 use Rattle.method.proofs.Carry.{up, down, room, most, carry}
 use Rattle.search.specs.Workspace.{outs, inns, Entry}
 use Rattle.method.proofs.HopTree.{Joined}
@@ -19,6 +19,7 @@ use Rattle.search.specs.Network.{nth, caps, Ready}
 use Rattle.search.specs.Reaching.{fromOf, viaOf, turnOf, widthOf, carried, IsGate, Rooted, Grow, Leads, Offered, stays, joins, Passed, Crossed, Missed, Swept, Planted, Found}
 use Rattle.search.proofs.Workspace.{slot-lt}
 use Rattle.method.proofs.Carry.{same?, carry-up, carry-open}
+use Rattle.method.proofs.Sources.{true?}
 use Rattle.method.proofs.HopTree.{reached}
 use Rattle.method.proofs.Sweep.{leads-open, leads-full, send-start, send-end, send-keeps, send-join}
 
@@ -121,17 +122,6 @@ module _ (Y : List ℕ) (j i c t w : ℕ) (l : length Y ≡ 256) (b : j < 64) wh
     width-off = λ x ne. off x 3 ne (omega arith);
   }
 
--- Two stores at the places of s.
-pub planted : (Y : List ℕ) (s w : ℕ) → length Y ≡ 256 → s < 64 → 0 < w → Planted (set (set Y (4 * s + 2) 0) (4 * s + 3) w) s
-planted Y s w l b p =
-    let Y′ = set Y (4 * s + 2) 0 in
-    let e = length-set Y (4 * s + 2) 0 in
-    record {
-      long = length-set Y′ (4 * s + 3) w ∙ e ∙ l;
-      first = getD-set-other Y′ (4 * s + 3) (4 * s + 2) w 0 (λ e. omega arith) ∙ getD-set-same Y (4 * s + 2) 0 0 (omega arith);
-      wide = omega (arith, getD-set-same Y′ (4 * s + 3) w 0 (omega (arith, e)));
-    }
-
 -- ---- sets of which members go one by one
 
 pub gone-one : (l j x : ℕ) → has (l ∖ 2 ^ j) x ≡ false → (has l x ≡ false) ⊎ (x ≡ j)
@@ -208,13 +198,13 @@ module _ {W J L : List ℕ} {n : ℕ} {ws : List ℤ} {c x : ℕ} where
 
 -- ---- the hops of i through one column
 
-module _ {W J L : List ℕ} {n m : ℕ} {ws : List ℤ} {s a : ℕ} {Y : List ℕ} {i c t : ℕ} (g : Grow W J L n m ws s a Y i c t) where
+module _ {W J L : List ℕ} {n m : ℕ} {ws : List ℤ} {X a : ℕ} {Y : List ℕ} {i c t : ℕ} (g : Grow W J L n m ws X a Y i c t) where
   wide : 0 < widthOf Y i
-  wide = ⊎-elim (λ e. rw e (g .sending .tree .wide)) (λ ne. g .sending .tree .link i (g .sending .held) ne .some) (same? i s)
+  wide = ⊎-elim (g .sending .tree .wide i) (λ ne. g .sending .tree .link i (g .sending .held) ne .some) (true? (has X i))
 
 -- Nothing was passed yet: all that the column joins and that is not met lies ahead.
-pub pass-start : {W J L : List ℕ} {n m : ℕ} {ws : List ℤ} {s a : ℕ} {Y U : List ℕ} {i : ℕ} (c : ℕ) → Ready W J L n m ws U → Rooted W J L n m ws s a Y → c < m → has a i ≡ true
-    → Passed W J L n m ws s a a Y i c (nth J c ∖ a)
+pub pass-start : {W J L : List ℕ} {n m : ℕ} {ws : List ℤ} {X a : ℕ} {Y U : List ℕ} {i : ℕ} (c : ℕ) → Ready W J L n m ws U → Rooted W J L n m ws X a Y → c < m → has a i ≡ true
+    → Passed W J L n m ws X a a Y i c (nth J c ∖ a)
 pass-start {J = J} {a = a} {i = i} c r g bc h = record {
   tree = record { sending = send-start (g .sweeping) h; long = g .long };
   keeps = λ x k. k;
@@ -229,21 +219,18 @@ others (joins z e jd ls) x ne = jd .set-off x ne
 more : (a j : ℕ) → has a j ≡ false → j < 64 → count 64 (a ∪ 2 ^ j) ≡ count 64 a + 1
 more a j new b = count-insert 64 b (λ p. true≢false (sym (p .is) ∙ new))
 
-module _ {W J L : List ℕ} {n m : ℕ} {ws : List ℤ} {s a i a′ a″ : ℕ} {Y′ Y″ : List ℕ} {c j k l : ℕ}
-    (p : Passed W J L n m ws s a a′ Y′ i c l) (bc : c < m) (bj : j < n) (b64 : j < 64) (new : has a′ j ≡ false) (e : k ≡ min (carried W J L n ws c i j) (widthOf Y′ i)) where
-  grown : Offered a′ Y′ a″ Y″ j i c (count 64 a) k → (Grow W J L n m ws s a″ Y″ i c (count 64 a)) × ((x : ℕ) → has a′ x ≡ true → has a″ x ≡ true) × (0 < carried W J L n ws c i j → has a″ j ≡ true)
+module _ {W J L : List ℕ} {n m : ℕ} {ws : List ℤ} {X a i a′ a″ : ℕ} {Y′ Y″ : List ℕ} {c j k l : ℕ}
+    (p : Passed W J L n m ws X a a′ Y′ i c l) (bc : c < m) (bj : j < n) (b64 : j < 64) (new : has a′ j ≡ false) (e : k ≡ min (carried W J L n ws c i j) (widthOf Y′ i)) where
+  grown : Offered a′ Y′ a″ Y″ j i c (count 64 a) k → (Grow W J L n m ws X a″ Y″ i c (count 64 a)) × ((x : ℕ) → has a′ x ≡ true → has a″ x ≡ true) × (0 < carried W J L n ws c i j → has a″ j ≡ true)
   grown (stays z q f) = (rw (q, f) (p .tree), λ x y. ap (λ (z : ℕ). has z x) q ∙ y, λ p0. absurd (omega (arith, wide (p .tree))))
   grown (joins z q jd ls) = (
-    record { sending = rw (q, more a′ j new b64) (send-join (p .tree .sending) (rw q at jd) new bj bc z (omega arith) (omega arith) not-s); long = ls },
+    record { sending = rw (q, more a′ j new b64) (send-join (p .tree .sending) (rw q at jd) new bj bc z (omega arith) (omega arith)); long = ls },
     send-keeps (p .tree .sending) jd new bj bc z (omega arith) (omega arith),
     λ p0. jd .set-at,
   )
-    where
-      not-s : j ≢ s
-      not-s u = true≢false (sym (p .tree .sending .tree .root) ∙ ap (has a′) (sym u) ∙ new)
 
   -- One taxon further.
-  pub pass-one : Offered a′ Y′ a″ Y″ j i c (count 64 a) k → {l′ : ℕ} → l′ ≡ l ∖ 2 ^ j → Passed W J L n m ws s a a″ Y″ i c l′
+  pub pass-one : Offered a′ Y′ a″ Y″ j i c (count 64 a) k → {l′ : ℕ} → l′ ≡ l ∖ 2 ^ j → Passed W J L n m ws X a a″ Y″ i c l′
   pass-one o {l′} q =
       let g = grown o in
       record {
@@ -254,10 +241,10 @@ module _ {W J L : List ℕ} {n m : ℕ} {ws : List ℤ} {s a i a′ a″ : ℕ} 
 
 -- ---- one column
 
-module _ {W J L : List ℕ} {n m : ℕ} {ws : List ℤ} {s : ℕ} {U : List ℕ} (r : Ready W J L n m ws U) {a c : ℕ} (bc : c < m) where
-  module _ {Y : List ℕ} (g : Rooted W J L n m ws s a Y) where
+module _ {W J L : List ℕ} {n m : ℕ} {ws : List ℤ} {X : ℕ} {U : List ℕ} (r : Ready W J L n m ws U) {a c : ℕ} (bc : c < m) where
+  module _ {Y : List ℕ} (g : Rooted W J L n m ws X a Y) where
     -- All that it joins is met ..
-    pub cross-full : nth J c ⊆ a → Crossed W J L n m ws s a a Y c
+    pub cross-full : nth J c ⊆ a → Crossed W J L n m ws X a a Y c
     cross-full h = record {
       tree = g;
       keeps = λ x k. k;
@@ -269,11 +256,11 @@ module _ {W J L : List ℕ} {n m : ℕ} {ws : List ℤ} {s : ℕ} {U : List ℕ}
     here y x k b p = in∩ (nth J c) a .1 (record { is = hop-joins r bc (g .sweeping .tree .low y k) b p .0 }, record { is = k }) .is
 
     -- .. or nobody sends ..
-    pub cross-none : Leads W J L n ws c (nth J c ∩ a) 64 → Crossed W J L n m ws s a a Y c
+    pub cross-none : Leads W J L n ws c (nth J c ∩ a) 64 → Crossed W J L n m ws X a a Y c
     cross-none l = record { tree = g; keeps = λ x k. k; into = λ y x k b p. absurd (l .sends y x (here y x k b p) p .0 refl) }
 
     -- .. or the sender's hops lead wherever the others lead.
-    pub cross : {a′ i : ℕ} {Y′ : List ℕ} → Leads W J L n ws c (nth J c ∩ a) i → Passed W J L n m ws s a a′ Y′ i c 0 → Crossed W J L n m ws s a a′ Y′ c
+    pub cross : {a′ i : ℕ} {Y′ : List ℕ} → Leads W J L n ws c (nth J c ∩ a) i → Passed W J L n m ws X a a′ Y′ i c 0 → Crossed W J L n m ws X a a′ Y′ c
     cross l p = record {
       tree = record { sweeping = send-end (p .tree .sending) (λ j b. p .into j b (has-none j)); long = p .tree .long };
       keeps = p .keeps;
@@ -283,52 +270,81 @@ module _ {W J L : List ℕ} {n m : ℕ} {ws : List ℤ} {s : ℕ} {U : List ℕ}
 -- ---- the columns one after the other
 
 -- The tree, of a before, after the hops of the taxa of a through the columns from `first` to below l.
-pub record Over (W J L : List ℕ) (n m : ℕ) (ws : List ℤ) (s a a′ : ℕ) (Y : List ℕ) (first l : ℕ) : Type 0 where
-  pub tree : Rooted W J L n m ws s a′ Y
+pub record Over (W J L : List ℕ) (n m : ℕ) (ws : List ℤ) (X a a′ : ℕ) (Y : List ℕ) (first l : ℕ) : Type 0 where
+  pub tree : Rooted W J L n m ws X a′ Y
   pub keeps : (x : ℕ) → has a x ≡ true → has a′ x ≡ true
   pub into : (c y x : ℕ) → first ≤ c → c < l → has a y ≡ true → x < n → 0 < carried W J L n ws c y x → has a′ x ≡ true
 
-module _ {W J L : List ℕ} {n m : ℕ} {ws : List ℤ} {s a first : ℕ} where
-  pub over-none : {Y : List ℕ} → Rooted W J L n m ws s a Y → Over W J L n m ws s a a Y first first
+module _ {W J L : List ℕ} {n m : ℕ} {ws : List ℤ} {X a first : ℕ} where
+  pub over-none : {Y : List ℕ} → Rooted W J L n m ws X a Y → Over W J L n m ws X a a Y first first
   over-none g = record { tree = g; keeps = λ x h. h; into = λ c y x f l. absurd (omega arith) }
 
-  pub over-one : {a′ a″ l : ℕ} {Y Y′ : List ℕ} → Over W J L n m ws s a a′ Y first l → Crossed W J L n m ws s a′ a″ Y′ l → Over W J L n m ws s a a″ Y′ first (l + 1)
+  pub over-one : {a′ a″ l : ℕ} {Y Y′ : List ℕ} → Over W J L n m ws X a a′ Y first l → Crossed W J L n m ws X a′ a″ Y′ l → Over W J L n m ws X a a″ Y′ first (l + 1)
   over-one {l = l} u p = record {
     tree = p .tree;
     keeps = λ x h. p .keeps x (u .keeps x h);
     into = λ c y x f b h bx q. ⊎-elim (λ e. p .into y x (u .keeps y h) bx (rw e at q)) (λ ne. p .keeps x (u .into c y x f (omega arith) h bx q)) (same? c l);
   }
 
+-- ---- sources
+
+-- None is planted yet, or
+pub plant-none : {Y : List ℕ} (X : ℕ) → length Y ≡ 256 → Planted Y X X
+plant-none X l = record { long = l; first = λ x h k. absurd (true≢false (sym h ∙ k)); wide = λ x h k. absurd (true≢false (sym h ∙ k)) }
+
+-- one more, by two stores.
+module _ {Y : List ℕ} {X l : ℕ} (p : Planted Y X l) (x w : ℕ) {l′ : ℕ} (b : x < 64) (some : 0 < w) (q : l′ ≡ l ∖ 2 ^ x) where
+  abbrev Y′ : List ℕ
+  Y′ = set Y (4 * x + 2) 0
+
+  was : (y : ℕ) → has l′ y ≡ false → y ≢ x → has l y ≡ false
+  was y k ne = ⊎-elim (λ h. h) (λ e. absurd (ne e)) (gone-one l x y (ap (λ (z : ℕ). has z y) (sym q) ∙ k))
+
+  pub plant-one : Planted (set Y′ (4 * x + 3) w) X l′
+  plant-one = record {
+    long = length-set Y′ (4 * x + 3) w ∙ length-set Y (4 * x + 2) 0 ∙ p .long;
+    first = λ y h k.
+        ⊎-elim
+        (λ e. rw e (getD-set-other Y′ (4 * x + 3) (4 * x + 2) w 0 (λ e. omega arith) ∙ getD-set-same Y (4 * x + 2) 0 0 (omega (arith, p .long))))
+        (λ ne. getD-set-other Y′ (4 * x + 3) (4 * y + 2) w 0 (λ e. omega arith) ∙ getD-set-other Y (4 * x + 2) (4 * y + 2) 0 0 (λ e. ne (omega arith)) ∙ p .first y h (was y k ne))
+        (same? y x);
+    wide = λ y h k.
+        ⊎-elim
+        (λ e. rw e (omega (arith, getD-set-same Y′ (4 * x + 3) w 0 (omega (arith, p .long, length-set Y (4 * x + 2) 0)))))
+        (λ ne. omega (arith, getD-set-other Y′ (4 * x + 3) (4 * y + 3) w 0 (λ e. ne (omega arith)), getD-set-other Y (4 * x + 2) (4 * y + 3) 0 0 (λ e. omega arith), p .wide y h (was y k ne)))
+        (same? y x);
+  }
+
 -- ---- sweeps
 
-module _ {W J L : List ℕ} {n m : ℕ} {ws : List ℤ} {s : ℕ} where
-  -- The tree of s alone.
-  pub root-alone : {Y : List ℕ} → s < n → s < 64 → Planted Y s → Rooted W J L n m ws s (2 ^ s) Y
-  root-alone {Y} bn b p = record {
+module _ {W J L : List ℕ} {n m : ℕ} {ws : List ℤ} {X : ℕ} where
+  -- The tree of the sources alone.
+  pub root-alone : {Y : List ℕ} → n ≤ 64 → X < 2 ^ n → Planted Y X 0 → Rooted W J L n m ws X X Y
+  root-alone {Y} l f p = record {
     long = p .long;
     sweeping = record {
       tree = record {
-        root = in-pow s .is;
-        first = p .first;
-        wide = p .wide;
-        low = λ j h. omega (arith, only j h);
-        link = λ j h ne. absurd (ne (only j h));
-        shared = λ x y h k ne. absurd (ne (only x h));
+        root = λ x h. h;
+        first = λ x h. p .first x h (has-none x);
+        wide = λ x h. p .wide x h (has-none x);
+        low = low;
+        link = λ x h off. absurd (true≢false (sym h ∙ off));
+        shared = λ x y h k off. absurd (true≢false (sym h ∙ off));
       };
-      turns = λ x h. omega (arith, ap (turnOf Y) (only x h), p .first, count-pow 64 b);
-      spent = λ x h ne. absurd (ne (only x h));
+      turns = λ x h. omega (arith, p .first x h (has-none x), count-in 64 {i = x} {x = X} (omega (arith, low x h)) (record { is = h }));
+      spent = λ x h off. absurd (true≢false (sym h ∙ off));
     };
   }
     where
-      only : (x : ℕ) → has (2 ^ s) x ≡ true → x ≡ s
-      only x h = pow-in s (record { is = h })
+      low : (x : ℕ) → has X x ≡ true → x < n
+      low x h = below n f (record { is = h })
 
   -- Its taxa are below n.
-  pub rooted-low : {a : ℕ} {Y : List ℕ} → Rooted W J L n m ws s a Y → a ≤ all n
+  pub rooted-low : {a : ℕ} {Y : List ℕ} → Rooted W J L n m ws X a Y → a ≤ all n
   rooted-low {a} g = ⊆-≤ {x = a} {y = all n} (record { sub = λ {i} h. in-all n (g .sweeping .tree .low i (h .is)) })
 
   -- A whole sweep of nobody.
-  pub swept-none : {a goal : ℕ} {Y : List ℕ} → Rooted W J L n m ws s a Y → Swept W J L n m ws s 0 a Y goal 0
+  pub swept-none : {a goal : ℕ} {Y : List ℕ} → Rooted W J L n m ws X a Y → Swept W J L n m ws X 0 a Y goal 0
   swept-none g = record {
     tree = g;
     keeps = λ x h. absurd (true≢false (sym h ∙ has-none x));
@@ -336,11 +352,11 @@ module _ {W J L : List ℕ} {n m : ℕ} {ws : List ℤ} {s : ℕ} where
   }
 
   -- A whole sweep that met nobody new.
-  pub swept-all : {a a′ goal : ℕ} {Y U : List ℕ} → Ready W J L n m ws U → Swept W J L n m ws s a a′ Y goal 0 → a′ ≤ a → Found W J L n m ws s a Y goal
+  pub swept-all : {a a′ goal : ℕ} {Y U : List ℕ} → Ready W J L n m ws U → Swept W J L n m ws X a a′ Y goal 0 → a′ ≤ a → Found W J L n m ws X a Y goal
   swept-all {a} {a′} {goal} {Y} r v le = rw e at (found v)
     where
       e : a′ ≡ a
       e = omega (arith, ⊆-≤ {x = a} {y = a′} (record { sub = λ {i} h. record { is = v .keeps i (h .is) } }))
 
-      found : Swept W J L n m ws s a a′ Y goal 0 → Found W J L n m ws s a′ Y goal
+      found : Swept W J L n m ws X a a′ Y goal 0 → Found W J L n m ws X a′ Y goal
       found u = record { tree = u .tree .sweeping .tree; all = λ h. reached (u .tree .sweeping .tree) (r .column) (λ y k c x bc bx. u .into h c y x (omega arith) bc (ap (λ (z : ℕ). has z y) (sym e) ∙ k) bx) }

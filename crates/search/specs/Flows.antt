@@ -1,4 +1,4 @@
--- Flows in the workspace: "in a flow the net flows balance at every column and at every taxon but s and t".
+-- Flows in the workspace, from a set X of taxa to t: "in a flow the net flows balance at every column and at every taxon but s and t".
 use mathlib.Core.Path.{_≡_}
 use mathlib.Core.Bool.{true, false}
 use mathlib.Core.List.{List}
@@ -8,7 +8,7 @@ use lib.IntN.{ℤ}
 use lib.ListN.{length}
 use Rattle.taxa.specs.Sum.{sum}
 use Rattle.taxa.specs.Sets.{has}
-use Rattle.method.specs.Flow.{Flow, Reach}
+use Rattle.method.specs.Sources.{FlowFrom, ReachFrom}
 use Rattle.search.specs.Workspace.{outs, inns}
 use Rattle.search.specs.Network.{nth, caps, Ready}
 
@@ -26,33 +26,33 @@ pub record Counted (n : ℕ) (ws′ : List ℤ) (U U′ : List ℕ) (c : ℕ) : 
   pub is : nth U′ c ≡ sum n (outs ws′ n c)
   pub rest : (e : ℕ) → e ≢ c → nth U′ e ≡ nth U e
 
--- A flow of k units from s to t stands in the workspace.
-pub record Flowing (W J L : List ℕ) (n m : ℕ) (ws : List ℤ) (U : List ℕ) (s t k : ℕ) : Type 0 where
+-- A flow of k units from the taxa of X to t stands in the workspace.
+pub record Flowing (W J L : List ℕ) (n m : ℕ) (ws : List ℤ) (U : List ℕ) (X t k : ℕ) : Type 0 where
   pub ready : Ready W J L n m ws U
-  pub flow : Flow n m (caps W J) (nth L) (outs ws n) (inns ws n) s t k
-  pub source : s < n
+  pub flow : FlowFrom n m (caps W J) (nth L) (outs ws n) (inns ws n) (has X) t k
+  pub sources : X < 2 ^ n
   pub sink : t < n
-  pub apart : t ≢ s
+  pub apart : has X t ≡ false
 
--- A is the taxa that hops reach from s past the flow.
-pub record Side (W J L : List ℕ) (n m : ℕ) (ws : List ℤ) (s A : ℕ) : Type 0 where
+-- A is the taxa that hops reach from those of X past the flow.
+pub record Side (W J L : List ℕ) (n m : ℕ) (ws : List ℤ) (X A : ℕ) : Type 0 where
   pub low : (j : ℕ) → has A j ≡ true → j < n
-  pub all : (j : ℕ) → j < n → has A j ≡ true ↔ Reach n m (caps W J) (nth L) (outs ws n) (inns ws n) s j
+  pub all : (j : ℕ) → j < n → has A j ≡ true ↔ ReachFrom n m (caps W J) (nth L) (outs ws n) (inns ws n) (has X) j
 
--- A flow of k units, and the taxa reached from s: all of them, if t is not among them.
-pub record Stage (W J L : List ℕ) (n m : ℕ) (ws : List ℤ) (U : List ℕ) (s t k A : ℕ) : Type 0 where
-  pub flowing : Flowing W J L n m ws U s t k
-  pub side : has A t ≡ false → Side W J L n m ws s A
+-- A flow of k units, and the taxa reached from X: all of them, if t is not among them.
+pub record Stage (W J L : List ℕ) (n m : ℕ) (ws : List ℤ) (U : List ℕ) (X t k A : ℕ) : Type 0 where
+  pub flowing : Flowing W J L n m ws U X t k
+  pub side : has A t ≡ false → Side W J L n m ws X A
 
 -- A path was pushed if t was reached: the flow of k units is one of k′, which is more.
-pub record Advanced (W J L : List ℕ) (n m : ℕ) (ws : List ℤ) (U : List ℕ) (s t k k′ A : ℕ) : Type 0 where
-  pub stage : Stage W J L n m ws U s t k′ A
+pub record Advanced (W J L : List ℕ) (n m : ℕ) (ws : List ℤ) (U : List ℕ) (X t k k′ A : ℕ) : Type 0 where
+  pub stage : Stage W J L n m ws U X t k′ A
   pub more : k ≤ k′
   pub pushed : has A t ≡ true → k < k′
 
--- A largest flow from s to t; or one that is no smaller than the bound.
-pub record Largest (W J L : List ℕ) (n m : ℕ) (ws : List ℤ) (s t bound k A : ℕ) : Type 0 where
-  pub flow : Flow n m (caps W J) (nth L) (outs ws n) (inns ws n) s t k
+-- A largest flow from the taxa of X to t; or one that is no smaller than the bound.
+pub record Largest (W J L : List ℕ) (n m : ℕ) (ws : List ℤ) (X t bound k A : ℕ) : Type 0 where
+  pub flow : FlowFrom n m (caps W J) (nth L) (outs ws n) (inns ws n) (has X) t k
   pub small : k ≤ 16776960
-  pub side : has A t ≡ false → Side W J L n m ws s A
+  pub side : has A t ≡ false → Side W J L n m ws X A
   pub stops : has A t ≡ true → bound ≤ k

@@ -1,4 +1,4 @@
--- What the functions that reach hand to each other. The tree stands in a list Y of 256 numbers, four to a taxon.
+-- What the functions that reach hand to each other, from a set X of sources. The tree stands in a list Y of 256 numbers, four to a taxon.
 use mathlib.Core.Path.{_≡_}
 use mathlib.Core.Bool.{true, false}
 use mathlib.Core.List.{List}
@@ -7,7 +7,7 @@ use Prim.Native.Nat.{ℕ, _+_, _-_, _*_, _^_, _≤_, _<_}
 use lib.IntN.{ℤ}
 use lib.ListN.{length}
 use Rattle.taxa.specs.Sets.{has, _∪_, count}
-use Rattle.method.specs.Flow.{Reach}
+use Rattle.method.specs.Sources.{ReachFrom}
 use Rattle.search.specs.Workspace.{outs, inns}
 use Rattle.method.proofs.Carry.{carry}
 use Rattle.method.proofs.HopTree.{Tree, Joined}
@@ -42,13 +42,13 @@ pub record IsGate (W L U : List ℕ) (n : ℕ) (ws : List ℤ) (c i weight sends
   pub is-room : room ≡ nth L c - nth U c
 
 -- The tree of the taxa of a.
-pub record Rooted (W J L : List ℕ) (n m : ℕ) (ws : List ℤ) (s a : ℕ) (Y : List ℕ) : Type 0 where
-  pub sweeping : Sweeping n m (caps W J) (nth L) (outs ws n) (inns ws n) s (has a) (fromOf Y) (viaOf Y) (turnOf Y) (widthOf Y) (count 64 a)
+pub record Rooted (W J L : List ℕ) (n m : ℕ) (ws : List ℤ) (X a : ℕ) (Y : List ℕ) : Type 0 where
+  pub sweeping : Sweeping n m (caps W J) (nth L) (outs ws n) (inns ws n) (has X) (has a) (fromOf Y) (viaOf Y) (turnOf Y) (widthOf Y) (count 64 a)
   pub long : length Y ≡ 256
 
 -- The same while taxon i sends through column c, and those that join get the turn t.
-pub record Grow (W J L : List ℕ) (n m : ℕ) (ws : List ℤ) (s a : ℕ) (Y : List ℕ) (i c t : ℕ) : Type 0 where
-  pub sending : Sending n m (caps W J) (nth L) (outs ws n) (inns ws n) s (has a) (fromOf Y) (viaOf Y) (turnOf Y) (widthOf Y) i c t (count 64 a)
+pub record Grow (W J L : List ℕ) (n m : ℕ) (ws : List ℤ) (X a : ℕ) (Y : List ℕ) (i c t : ℕ) : Type 0 where
+  pub sending : Sending n m (caps W J) (nth L) (outs ws n) (inns ws n) (has X) (has a) (fromOf Y) (viaOf Y) (turnOf Y) (widthOf Y) i c t (count 64 a)
   pub long : length Y ≡ 256
 
 -- i is a taxon of x, and a hop from it through column c leads wherever one from a taxon of x leads; or i is 64, and none of them leads anywhere.
@@ -63,14 +63,14 @@ pub data Offered (a : ℕ) (Y : List ℕ) (a′ : ℕ) (Y′ : List ℕ) (j i c 
       → Offered a Y a′ Y′ j i c t k
 
 -- The tree, of a before, after the hops of i through column c to all taxa but those of l.
-pub record Passed (W J L : List ℕ) (n m : ℕ) (ws : List ℤ) (s a a′ : ℕ) (Y : List ℕ) (i c l : ℕ) : Type 0 where
-  pub tree : Grow W J L n m ws s a′ Y i c (count 64 a)
+pub record Passed (W J L : List ℕ) (n m : ℕ) (ws : List ℤ) (X a a′ : ℕ) (Y : List ℕ) (i c l : ℕ) : Type 0 where
+  pub tree : Grow W J L n m ws X a′ Y i c (count 64 a)
   pub keeps : (x : ℕ) → has a x ≡ true → has a′ x ≡ true
   pub into : (x : ℕ) → x < n → has l x ≡ false → 0 < carried W J L n ws c i x → has a′ x ≡ true
 
 -- The tree, of a before, after the hops of the taxa of a through column c.
-pub record Crossed (W J L : List ℕ) (n m : ℕ) (ws : List ℤ) (s a a′ : ℕ) (Y : List ℕ) (c : ℕ) : Type 0 where
-  pub tree : Rooted W J L n m ws s a′ Y
+pub record Crossed (W J L : List ℕ) (n m : ℕ) (ws : List ℤ) (X a a′ : ℕ) (Y : List ℕ) (c : ℕ) : Type 0 where
+  pub tree : Rooted W J L n m ws X a′ Y
   pub keeps : (x : ℕ) → has a x ≡ true → has a′ x ≡ true
   pub into : (y x : ℕ) → has a y ≡ true → x < n → 0 < carried W J L n ws c y x → has a′ x ≡ true
 
@@ -79,18 +79,18 @@ pub record Missed (goal a : ℕ) : Type 0 where
   pub none : (x : ℕ) → has goal x ≡ true → has a x ≡ false
 
 -- The tree, of a before, after the hops of the taxa of a through all columns from `first` on; through some, once a taxon of the goal is reached.
-pub record Swept (W J L : List ℕ) (n m : ℕ) (ws : List ℤ) (s a a′ : ℕ) (Y : List ℕ) (goal first : ℕ) : Type 0 where
-  pub tree : Rooted W J L n m ws s a′ Y
+pub record Swept (W J L : List ℕ) (n m : ℕ) (ws : List ℤ) (X a a′ : ℕ) (Y : List ℕ) (goal first : ℕ) : Type 0 where
+  pub tree : Rooted W J L n m ws X a′ Y
   pub keeps : (x : ℕ) → has a x ≡ true → has a′ x ≡ true
   pub into : Missed goal a′ → (c y x : ℕ) → first ≤ c → c < m → has a y ≡ true → x < n → 0 < carried W J L n ws c y x → has a′ x ≡ true
 
--- s stands in the tree.
-pub record Planted (Y : List ℕ) (s : ℕ) : Type 0 where
+-- The taxa of X but those of l stand in the tree.
+pub record Planted (Y : List ℕ) (X l : ℕ) : Type 0 where
   pub long : length Y ≡ 256
-  pub first : turnOf Y s ≡ 0
-  pub wide : 0 < widthOf Y s
+  pub first : (x : ℕ) → has X x ≡ true → has l x ≡ false → turnOf Y x ≡ 0
+  pub wide : (x : ℕ) → has X x ≡ true → has l x ≡ false → 0 < widthOf Y x
 
--- What reaching gives: a tree; and, where no taxon of the goal is in it, exactly the taxa that hops lead to from s.
-pub record Found (W J L : List ℕ) (n m : ℕ) (ws : List ℤ) (s a : ℕ) (Y : List ℕ) (goal : ℕ) : Type 0 where
-  pub tree : Tree n m (caps W J) (nth L) (outs ws n) (inns ws n) s (has a) (fromOf Y) (viaOf Y) (turnOf Y) (widthOf Y)
-  pub all : Missed goal a → (j : ℕ) → j < n → has a j ≡ true ↔ Reach n m (caps W J) (nth L) (outs ws n) (inns ws n) s j
+-- What reaching gives: a tree; and, where no taxon of the goal is in it, exactly the taxa that hops lead to from those of X.
+pub record Found (W J L : List ℕ) (n m : ℕ) (ws : List ℤ) (X a : ℕ) (Y : List ℕ) (goal : ℕ) : Type 0 where
+  pub tree : Tree n m (caps W J) (nth L) (outs ws n) (inns ws n) (has X) (has a) (fromOf Y) (viaOf Y) (turnOf Y) (widthOf Y)
+  pub all : Missed goal a → (j : ℕ) → j < n → has a j ≡ true ↔ ReachFrom n m (caps W J) (nth L) (outs ws n) (inns ws n) (has X) j

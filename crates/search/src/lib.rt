@@ -1,4 +1,4 @@
-// The search for the least division of a group: a largest flow from its lowest taxon to each other one, in the lent workspace.
+// The search for the least division of a group: a largest flow to each taxon from all that are lower, in the lent workspace.
 // Promises that a flow of the division's cost stands there, that side A is what hops reach past it, and that cost, A and t are what listing gives.
 // Rests on taxa and on method; signed numbers are confined to module net.
 pub mod net;
@@ -53,7 +53,7 @@ fn network_of(
     }
 }
 
-// The taxa that hops reach from s past no flow.
+// The taxa that hops reach from the sources past no flow.
 fn connected(
     weights: &[u16],
     joined: &[u64; 256],
@@ -63,18 +63,18 @@ fn connected(
     ws: &mut [i32],
     used: &mut [u32; 256],
     tree: &mut [u32; 256],
-    s: usize,
+    sources: u64,
 ) -> u64
-    requires { ⌜ Net (now weights) (now joined) (now limits) n m × (n * m ≤ length (now ws)) × (s < n) × Spare (now used) (now tree) ⌝ }
+    requires { ⌜ Net (now weights) (now joined) (now limits) n m × (n * m ≤ length (now ws)) × (sources < 2 ^ n) × Spare (now used) (now tree) ⌝ }
     ensures { λ r. ⌜
-        Side (now (weights .entry)) (now (joined .entry)) (now (limits .entry)) n m (now (ws .exit)) s r
+        Side (now (weights .entry)) (now (joined .entry)) (now (limits .entry)) n m (now (ws .exit)) sources r
         × (now (ws .exit) ≡ cleared (n * m) (now (ws .entry)))
         × Spare (now (used .exit)) (now (tree .exit)) ⌝ }
 {
     net::clear(ws, n * m);
     push::unused(used, m);
     // No path came before: the first sweep is left out, and whole ones do.
-    reach::reach(weights, joined, limits, n, m, ws, used, tree, s, 0, m)
+    reach::reach(weights, joined, limits, n, m, ws, used, tree, sources, 0, m)
 }
 
 // The least cost so far, and the taxon that it was met at first.
@@ -110,7 +110,8 @@ fn tied(weights: &[u16], joined: &[u64; 256], m: usize, lower: u64, u: usize) ->
     sum
 }
 
-// Taxon u is tried. A set with all taxa of the group below u, and without u, costs what ties u to them at least: no flow is needed if that is no less.
+// Taxon u is tried. Only sets with all taxa of the group below u, and without u, can cost less than the best: what ties u to those taxa, and a flow
+// from all of them to u, is what such a set costs at least.
 fn attempt(
     weights: &[u16],
     joined: &[u64; 256],
@@ -121,19 +122,19 @@ fn attempt(
     ws: &mut [i32],
     used: &mut [u32; 256],
     tree: &mut [u32; 256],
-    s: usize,
     best: Best,
     u: usize,
 ) -> Best
     requires { ⌜
         Net (now weights) (now joined) (now limits) n m
         × (n * m ≤ length (now ws))
-        × (s < u)
+        × (group < 2 ^ n)
+        × (low n group < u)
         × (u < n)
-        × Tried (now weights) (now joined) (now limits) n m group s u (best .cost) (best .other)
+        × Tried (now weights) (now joined) (now limits) n m group (low n group) u (best .cost) (best .other)
         × Spare (now used) (now tree) ⌝ }
     ensures { λ r. ⌜
-        Tried (now (weights .entry)) (now (joined .entry)) (now (limits .entry)) n m group s (u + 1) (r .cost) (r .other)
+        Tried (now (weights .entry)) (now (joined .entry)) (now (limits .entry)) n m group (low n group) (u + 1) (r .cost) (r .other)
         × Kept (n * m) (now (ws .entry)) (now (ws .exit))
         × Spare (now (used .exit)) (now (tree .exit)) ⌝ }
 {
@@ -153,7 +154,7 @@ fn attempt(
         ws,
         used,
         tree,
-        s,
+        lower,
         u,
         best.cost,
     );
@@ -167,7 +168,7 @@ fn attempt(
     }
 }
 
-// The least that parts a taxon of the group from its lowest, s, and the first such taxon.
+// The least that parts a taxon of the group from its lowest, the source, and the first such taxon.
 fn cheapest(
     weights: &[u16],
     joined: &[u64; 256],
@@ -178,17 +179,17 @@ fn cheapest(
     ws: &mut [i32],
     used: &mut [u32; 256],
     tree: &mut [u32; 256],
-    s: usize,
+    source: u64,
 ) -> Best
     requires { ⌜
         Net (now weights) (now joined) (now limits) n m
         × (n * m ≤ length (now ws))
         × (group < 2 ^ n)
         × (1 < count n group)
-        × (s ≡ low n group)
+        × (source ≡ 2 ^ low n group)
         × Spare (now used) (now tree) ⌝ }
     ensures { λ r. ⌜
-        Tried (now (weights .entry)) (now (joined .entry)) (now (limits .entry)) n m group s n (r .cost) (r .other)
+        Tried (now (weights .entry)) (now (joined .entry)) (now (limits .entry)) n m group (low n group) n (r .cost) (r .other)
         × Kept (n * m) (now (ws .entry)) (now (ws .exit))
         × Spare (now (used .exit)) (now (tree .exit)) ⌝ }
 {
@@ -202,7 +203,7 @@ fn cheapest(
         ws,
         used,
         tree,
-        s,
+        source,
         t,
         4294967295,
     );
@@ -221,7 +222,6 @@ fn cheapest(
             ws,
             used,
             tree,
-            s,
             best,
             u,
         );
@@ -260,8 +260,8 @@ pub fn divide(
         × Lent (now (joined .exit)) (now (limits .exit)) (now (used .exit)) (now (tree .exit)) ⌝ }
 {
     network_of(weights, ones, zeros, group, m, joined, limits);
-    let s = taxa::lowest(group) as usize;
-    let met = connected(weights, joined, limits, n, m, ws, used, tree, s);
+    let source = taxa::single(taxa::lowest(group));
+    let met = connected(weights, joined, limits, n, m, ws, used, tree, source);
     let off = taxa::difference(group, met);
     if 0 < off {
         return Split {
@@ -270,7 +270,7 @@ pub fn divide(
             other: taxa::lowest(off) as usize,
         };
     }
-    let t = cheapest(weights, joined, limits, group, n, m, ws, used, tree, s).other;
+    let t = cheapest(weights, joined, limits, group, n, m, ws, used, tree, source).other;
     let cut = push::largest(
         weights,
         joined,
@@ -280,7 +280,7 @@ pub fn divide(
         ws,
         used,
         tree,
-        s,
+        source,
         t,
         4294967295,
     );

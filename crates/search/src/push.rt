@@ -3,8 +3,7 @@ use crate::net;
 use crate::reach;
 ghost use mathlib.Core.Path.{_≡_};
 ghost use mathlib.Core.Bool.{true, false};
-ghost use mathlib.Core.Logic.{_≢_};
-ghost use Prim.Native.Nat.{_+_, _*_, _≤_, _<_};
+ghost use Prim.Native.Nat.{_+_, _*_, _^_, _≤_, _<_};
 ghost use lib.ListN.{length};
 ghost use Rattle.taxa.specs.Sets.{has};
 ghost use Rattle.search.specs.Workspace.{outs, inns, Kept, CanHop};
@@ -35,7 +34,7 @@ fn step(
     used[c] = used[c] + after - before;
 }
 
-// The size of a flow, and the taxa reached from its source.
+// The size of a flow, and the taxa reached from its sources.
 pub struct Cut {
     pub size: u32,
     pub side: u64,
@@ -57,13 +56,13 @@ fn advance(
     ws: &mut [i32],
     used: &mut [u32; 256],
     tree: &mut [u32; 256],
-    s: usize,
+    sources: u64,
     t: usize,
     size: u32,
 ) -> Cut
-    requires { ⌜ Flowing (now weights) (now joined) (now limits) n m (now ws) (now used) s t size × (length (now tree) ≡ 256) ⌝ }
+    requires { ⌜ Flowing (now weights) (now joined) (now limits) n m (now ws) (now used) sources t size × (length (now tree) ≡ 256) ⌝ }
     ensures { λ r. ⌜
-        Advanced (now (weights .entry)) (now (joined .entry)) (now (limits .entry)) n m (now (ws .exit)) (now (used .exit)) s t size (r .size) (r .side)
+        Advanced (now (weights .entry)) (now (joined .entry)) (now (limits .entry)) n m (now (ws .exit)) (now (used .exit)) sources t size (r .size) (r .side)
         × Kept (n * m) (now (ws .entry)) (now (ws .exit))
         × (length (now (tree .exit)) ≡ 256) ⌝ }
 {
@@ -79,7 +78,7 @@ fn advance(
         ws,
         used,
         tree,
-        s,
+        sources,
         goal,
         first,
     );
@@ -91,7 +90,7 @@ fn advance(
     }
     let d = tree[4 * t + 3];
     let mut j = t;
-    // Only s has turn 0.
+    // Only the sources have turn 0.
     while 0 < tree[4 * j + 2] {
         let i = index(tree[4 * j]);
         let c = index(tree[4 * j + 1]);
@@ -102,6 +101,63 @@ fn advance(
         size: size + d,
         side: met,
     }
+}
+
+// One hop straight from a source to t through column c, if that joins both, carries what it can: the size of the flow with that.
+fn direct_hop(
+    weights: &[u16],
+    joined: &[u64; 256],
+    limits: &[u32; 256],
+    n: usize,
+    m: usize,
+    ws: &mut [i32],
+    used: &mut [u32; 256],
+    sources: u64,
+    t: usize,
+    c: usize,
+    size: u32,
+) -> u32
+    requires { ⌜ Flowing (now weights) (now joined) (now limits) n m (now ws) (now used) sources t size × (c < m) ⌝ }
+    ensures { λ r. ⌜
+        Flowing (now (weights .entry)) (now (joined .entry)) (now (limits .entry)) n m (now (ws .exit)) (now (used .exit)) sources t r
+        × Kept (n * m) (now (ws .entry)) (now (ws .exit)) ⌝ }
+{
+    if !taxa::contains(joined[c], t as u32) {
+        return size;
+    }
+    let here = taxa::common(joined[c], sources);
+    if here == 0 {
+        return size;
+    }
+    let i = taxa::lowest(here) as usize;
+    let g = reach::gate_at(weights, limits, n, ws, used, c, i);
+    let d = reach::carry_to(g, ws, n, c, t);
+    step(ws, used, n, m, c, i, t, d);
+    size + d
+}
+
+// The size of the flow that hops straight from the sources to t make, past none.
+fn direct_hops(
+    weights: &[u16],
+    joined: &[u64; 256],
+    limits: &[u32; 256],
+    n: usize,
+    m: usize,
+    ws: &mut [i32],
+    used: &mut [u32; 256],
+    sources: u64,
+    t: usize,
+) -> u32
+    requires { ⌜ Flowing (now weights) (now joined) (now limits) n m (now ws) (now used) sources t 0 ⌝ }
+    ensures { λ r. ⌜
+        Flowing (now (weights .entry)) (now (joined .entry)) (now (limits .entry)) n m (now (ws .exit)) (now (used .exit)) sources t r
+        × Kept (n * m) (now (ws .entry)) (now (ws .exit)) ⌝ }
+{
+    let mut size: u32 = 0;
+    for c in 0..m {
+        size = direct_hop(weights, joined, limits, n, m, ws, used, sources, t, c, size);
+    }
+    size
 }
 
 // Whether the flow still grows: t was reached, and the bound is not.
@@ -126,7 +182,7 @@ pub fn unused(used: &mut [u32; 256], m: usize)
     }
 }
 
-// A largest flow from s to t, from whatever stands in the workspace; it stops once it is no smaller than the bound.
+// A largest flow from the sources to t, from whatever stands in the workspace; it stops once it is no smaller than the bound.
 pub fn largest(
     weights: &[u16],
     joined: &[u64; 256],
@@ -136,25 +192,30 @@ pub fn largest(
     ws: &mut [i32],
     used: &mut [u32; 256],
     tree: &mut [u32; 256],
-    s: usize,
+    sources: u64,
     t: usize,
     bound: u32,
 ) -> Cut
     requires { ⌜
         Net (now weights) (now joined) (now limits) n m
         × (n * m ≤ length (now ws))
-        × (s < n)
+        × (sources < 2 ^ n)
         × (t < n)
-        × (t ≢ s)
+        × (has sources t ≡ false)
         × Spare (now used) (now tree) ⌝ }
     ensures { λ r. ⌜
-        Largest (now (weights .entry)) (now (joined .entry)) (now (limits .entry)) n m (now (ws .exit)) s t bound (r .size) (r .side)
+        Largest (now (weights .entry)) (now (joined .entry)) (now (limits .entry)) n m (now (ws .exit)) sources t bound (r .size) (r .side)
         × Kept (n * m) (now (ws .entry)) (now (ws .exit))
         × Spare (now (used .exit)) (now (tree .exit)) ⌝ }
 {
     net::clear(ws, n * m);
     unused(used, m);
-    let mut cut = advance(weights, joined, limits, n, m, ws, used, tree, s, t, 0);
+    let size = direct_hops(weights, joined, limits, n, m, ws, used, sources, t);
+    // t counts as reached: nothing is known of the side yet.
+    let mut cut = Cut {
+        size: size,
+        side: taxa::single(t as u32),
+    };
     while grows(cut.side, t, cut.size, bound) {
         cut = advance(
             weights,
@@ -165,7 +226,7 @@ pub fn largest(
             ws,
             used,
             tree,
-            s,
+            sources,
             t,
             cut.size,
         );

@@ -1,4 +1,4 @@
-// The taxa that hops reach from s past the flow, by sweeps over the columns. How each was reached goes into a lent tree, four numbers to a taxon: from
+// The taxa that hops reach from a set of sources past the flow, by sweeps over the columns. How each was reached goes into a lent tree, four numbers to a taxon: from
 // which taxon, through which column, at which turn, and the least that a hop of the way carries.
 use crate::net;
 ghost use mathlib.Core.Path.{_≡_};
@@ -31,14 +31,14 @@ pub fn wide(x: u16) -> u32
 }
 
 // What a taxon finds at a column: the weight, what it can send, what it can turn back, and the column's room.
-struct Gate {
-    weight: u32,
-    sends: u32,
-    back: u32,
-    room: u32,
+pub struct Gate {
+    pub weight: u32,
+    pub sends: u32,
+    pub back: u32,
+    pub room: u32,
 }
 
-fn gate_at(
+pub fn gate_at(
     weights: &[u16],
     limits: &[u32; 256],
     n: usize,
@@ -69,7 +69,7 @@ fn gate_at(
 }
 
 // What a hop to taxon j carries.
-fn carry_to(g: Gate, ws: &[i32], n: usize, c: usize, j: usize) -> u32
+pub fn carry_to(g: Gate, ws: &[i32], n: usize, c: usize, j: usize) -> u32
     requires { ⌜ (g .weight < 65536) × Entry (now ws) n c j (g .weight) ⌝ }
     ensures { λ r. ⌜
         r ≡ min (min (g .sends) (g .weight + outs (now (ws .entry)) n c j - inns (now (ws .entry)) n c j))
@@ -140,18 +140,18 @@ fn through(
     ws: &[i32],
     used: &[u32; 256],
     tree: &mut [u32; 256],
-    s: usize,
+    sources: u64,
     met: u64,
     i: usize,
     c: usize,
 ) -> u64
     requires { ⌜
         Ready (now weights) (now joined) (now limits) n m (now ws) (now used)
-        × Rooted (now weights) (now joined) (now limits) n m (now ws) s met (now tree)
+        × Rooted (now weights) (now joined) (now limits) n m (now ws) sources met (now tree)
         × (c < m)
         × (has (nth (now joined) c) i ≡ true)
         × (has met i ≡ true) ⌝ }
-    ensures { λ r. ⌜ Passed (now (weights .entry)) (now (joined .entry)) (now (limits .entry)) n m (now (ws .entry)) s met r (now (tree .exit)) i c 0 ⌝ }
+    ensures { λ r. ⌜ Passed (now (weights .entry)) (now (joined .entry)) (now (limits .entry)) n m (now (ws .entry)) sources met r (now (tree .exit)) i c 0 ⌝ }
 {
     let g = gate_at(weights, limits, n, ws, used, c, i);
     let stamp = taxa::size(met);
@@ -176,15 +176,15 @@ fn pass(
     ws: &[i32],
     used: &[u32; 256],
     tree: &mut [u32; 256],
-    s: usize,
+    sources: u64,
     met: u64,
     c: usize,
 ) -> u64
     requires { ⌜
         Ready (now weights) (now joined) (now limits) n m (now ws) (now used)
-        × Rooted (now weights) (now joined) (now limits) n m (now ws) s met (now tree)
+        × Rooted (now weights) (now joined) (now limits) n m (now ws) sources met (now tree)
         × (c < m) ⌝ }
-    ensures { λ r. ⌜ Crossed (now (weights .entry)) (now (joined .entry)) (now (limits .entry)) n m (now (ws .entry)) s met r (now (tree .exit)) c ⌝ }
+    ensures { λ r. ⌜ Crossed (now (weights .entry)) (now (joined .entry)) (now (limits .entry)) n m (now (ws .entry)) sources met r (now (tree .exit)) c ⌝ }
 {
     if taxa::subset(joined[c], met) {
         return met;
@@ -194,7 +194,20 @@ fn pass(
     if i == 64 {
         return met;
     }
-    through(weights, joined, limits, n, m, ws, used, tree, s, met, i, c)
+    through(
+        weights,
+        joined,
+        limits,
+        n,
+        m,
+        ws,
+        used,
+        tree,
+        sources,
+        met,
+        i,
+        c,
+    )
 }
 
 // Whether a taxon of the goal is in a.
@@ -214,37 +227,53 @@ fn sweep(
     ws: &[i32],
     used: &[u32; 256],
     tree: &mut [u32; 256],
-    s: usize,
+    sources: u64,
     met: u64,
     goal: u64,
     first: usize,
 ) -> u64
     requires { ⌜
         Ready (now weights) (now joined) (now limits) n m (now ws) (now used)
-        × Rooted (now weights) (now joined) (now limits) n m (now ws) s met (now tree) ⌝ }
-    ensures { λ r. ⌜ Swept (now (weights .entry)) (now (joined .entry)) (now (limits .entry)) n m (now (ws .entry)) s met r (now (tree .exit)) goal first ⌝ }
+        × Rooted (now weights) (now joined) (now limits) n m (now ws) sources met (now tree) ⌝ }
+    ensures { λ r. ⌜ Swept (now (weights .entry)) (now (joined .entry)) (now (limits .entry)) n m (now (ws .entry)) sources met r (now (tree .exit)) goal first ⌝ }
 {
     let mut all = met;
     for c in first..m {
         if hits(goal, all) {
             return all;
         }
-        all = pass(weights, joined, limits, n, m, ws, used, tree, s, all, c);
+        all = pass(
+            weights,
+            joined,
+            limits,
+            n,
+            m,
+            ws,
+            used,
+            tree,
+            sources,
+            all,
+            c,
+        );
     }
     all
 }
 
-// The tree of s alone, which has turn 0.
-fn plant(tree: &mut [u32; 256], s: usize) -> u64
-    requires { ⌜ (s < 64) × (length (now tree) ≡ 256) ⌝ }
-    ensures { λ r. ⌜ (r ≡ 2 ^ s) × Planted (now (tree .exit)) s ⌝ }
+// The tree of the sources alone, which have turn 0.
+fn plant(tree: &mut [u32; 256], sources: u64)
+    requires { ⌜ length (now tree) ≡ 256 ⌝ }
+    ensures { λ _. ⌜ Planted (now (tree .exit)) sources 0 ⌝ }
 {
-    tree[4 * s + 2] = 0;
-    tree[4 * s + 3] = 4294967295;
-    taxa::single(s as u32)
+    let mut left = sources;
+    while 0 < left {
+        let x = taxa::lowest(left) as usize;
+        tree[4 * x + 2] = 0;
+        tree[4 * x + 3] = 4294967295;
+        left = taxa::rest(left);
+    }
 }
 
-// The taxa that hops reach from s; some of them only, once a taxon of the goal is among them. The first sweep may start at any column, as whole ones
+// The taxa that hops reach from the sources; some of them only, once a taxon of the goal is among them. The first sweep may start at any column, as whole ones
 // follow it: the goal is met soonest where the last path to it came through.
 pub fn reach(
     weights: &[u16],
@@ -255,16 +284,16 @@ pub fn reach(
     ws: &[i32],
     used: &[u32; 256],
     tree: &mut [u32; 256],
-    s: usize,
+    sources: u64,
     goal: u64,
     first: usize,
 ) -> u64
-    requires { ⌜ Ready (now weights) (now joined) (now limits) n m (now ws) (now used) × (length (now tree) ≡ 256) × (s < n) ⌝ }
+    requires { ⌜ Ready (now weights) (now joined) (now limits) n m (now ws) (now used) × (length (now tree) ≡ 256) × (sources < 2 ^ n) ⌝ }
     ensures { λ r. ⌜
-        Found (now (weights .entry)) (now (joined .entry)) (now (limits .entry)) n m (now (ws .entry)) s r (now (tree .exit)) goal
+        Found (now (weights .entry)) (now (joined .entry)) (now (limits .entry)) n m (now (ws .entry)) sources r (now (tree .exit)) goal
         × (length (now (tree .exit)) ≡ 256) ⌝ }
 {
-    let start = plant(tree, s);
+    plant(tree, sources);
     // What the last whole sweep started from: nobody, as none was made yet.
     let mut met: u64 = 0;
     let mut next = sweep(
@@ -276,8 +305,8 @@ pub fn reach(
         ws,
         used,
         tree,
-        s,
-        start,
+        sources,
+        sources,
         goal,
         first,
     );
@@ -292,7 +321,7 @@ pub fn reach(
             ws,
             used,
             tree,
-            s,
+            sources,
             met,
             goal,
             0,

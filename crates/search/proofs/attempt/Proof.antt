@@ -6,16 +6,19 @@ use mathlib.Core.Path.{_≡_, sym, _∙_}
 use mathlib.Core.Bool.{true}
 use Prim.Native.Nat.{_*_}
 use Rattle.taxa.specs.Sets.{has, all, _∩_}
+use Rattle.taxa.proofs.Members.{in-pos, low-in}
+use Rattle.search.specs.Flows.{Largest}
 use Rattle.search.specs.Trying.{ties}
 use Rattle.search.proofs.Workspace.{kept-none}
-use Rattle.search.proofs.Group.{tried-skip, tried-tied, tried-better, tried-worse}
+use Rattle.search.proofs.Group.{lower-fits, lower-off, lower-in, tried-skip, tried-tied, tried-better, tried-worse}
 use Rattle.search.proofs.attempt.Statement.{statement}
 use Rattle.search.proofs.attempt.Tie as tie
 
 returns : tie.Need-returns
 returns c =
     let a = c .before .before .before .args in
-    (tried-skip (c .before .before .before .pre .4) (sym (c .before .contains .ensures) ∙ not-true (c .before .contains .result) (c .if1 .taken)), kept-none (a .n * a .m) (a .ws .now), c .before .before .before .pre .5)
+    let p = c .before .before .before .pre in
+    (tried-skip (p .5) (sym (c .before .contains .ensures) ∙ not-true (c .before .contains .result) (c .if1 .taken)), kept-none (a .n * a .m) (a .ws .now), p .6)
 
 -- The way back to the start, and that u is in the group.
 abbrev begun : tie.Else1 → tie.Start
@@ -24,9 +27,13 @@ begun c = c .before .before .before
 in-group : (c : tie.Else1) → has (begun c .args .group) (begun c .args .u) ≡ true
 in-group c = sym (c .before .contains .ensures) ∙ not-false (c .before .contains .result) (c .if1 .left)
 
--- What ties u to the taxa of the group below it.
+-- The taxa of the group below it.
+is-lower : (c : tie.After-common) → let a = begun (c .before .before) .args in c .common .result ≡ a .group ∩ all (a .u)
+is-lower c = rw (c .before .all .ensures) at (c .common .ensures)
+
+-- What ties u to those.
 is-tied : (c : tie.After-tied) → let a = begun (c .before .before .before) .args in c .tied .result ≡ ties (a .weights .now) (a .joined .now) (a .m) (a .group ∩ all (a .u)) (a .u)
-is-tied c = rw (c .before .common .ensures, c .before .before .all .ensures) at (c .tied .ensures)
+is-tied c = rw (is-lower (c .before)) at (c .tied .ensures)
 
 returns-2 : tie.Need-returns-2
 returns-2 c =
@@ -34,30 +41,41 @@ returns-2 c =
     let start = begun (t .before .before .before) in
     let a = start .args in
     let p = start .pre in
-    (tried-tied (p .4) (p .0) (p .3) (omega (arith, is-tied t, c .if2 .taken)), kept-none (a .n * a .m) (a .ws .now), p .5)
+    (tried-tied (p .5) (p .0) (p .4) (omega (arith, is-tied t, c .if2 .taken)), kept-none (a .n * a .m) (a .ws .now), p .6)
+
+-- The way back from the flow.
+abbrev lowered : tie.Else2 → tie.After-common
+lowered c = c .before .before .before
+
+abbrev tested : tie.After-largest → tie.Else2
+tested c = c .before .before .before .before
 
 largest-requires : tie.Need-largest-requires
 largest-requires c κs =
-    let p = begun (c .before .before .before .before .before .before .before .before) .pre in
-    (p .0, p .1, omega (arith, p .2, p .3), p .3, λ e. omega (arith, p .2), p .5)
+    let l = lowered (c .before .before .before) in
+    let start = begun (l .before .before) in
+    let p = start .pre in
+    (p .0, p .1, rw (is-lower l) (lower-fits (start .args .group) (p .4)), p .4, rw (is-lower l) (lower-off (start .args .group) (start .args .u)), p .6)
 
--- The way back from the flow.
-abbrev flowed : tie.After-largest → tie.Else1
-flowed c = c .before .before .before .before .before .before .before .before .before
+-- A largest flow from those taxa.
+is-largest : (c : tie.After-largest) →
+    let a = begun (lowered (tested c) .before .before) .args in
+    Largest (a .weights .now) (a .joined .now) (a .limits .now) (a .n) (a .m) (c .largest .last .1 .1 .1 .1 .1 .0) (a .group ∩ all (a .u)) (a .u) (a .best .cost) (c .largest .result .size) (c .largest .result .side)
+is-largest c = rw (is-lower (lowered (tested c))) at (c .largest .ensures .0)
 
 returns-3 : tie.Need-returns-3
 returns-3 c =
     let f = c .before .before .before .before in
-    let p = begun (flowed f) .pre in
-    let l = f .largest .ensures in
-    (tried-better (p .4) (omega (arith, p .2, p .3)) (l .0) (in-group (flowed f)) (omega arith), l .1, l .2)
+    let x = lowered (tested f) .before .before in
+    let a = begun x .args in
+    let p = begun x .pre in
+    let s = low-in (a .n) (in-pos (record { is = in-group x })) (p .2) in
+    (tried-better (p .5) (is-largest f) (p .4) (lower-in (a .group) (s .is) (p .3)) (in-group x) (omega arith), f .largest .ensures .1, f .largest .ensures .2)
 
 returns-4 : tie.Need-returns-4
 returns-4 c =
     let f = c .before .before .before .before in
-    let p = begun (flowed f) .pre in
-    let l = f .largest .ensures in
-    (tried-worse (p .4) (omega (arith, p .2, p .3)) (l .0) (omega arith), l .1, l .2)
+    (tried-worse (begun (lowered (tested f) .before .before) .pre .5) (is-largest f) (omega arith), f .largest .ensures .1, f .largest .ensures .2)
 
 pub attempt-spec : {M : Type 1} → statement M
 attempt-spec =

@@ -3,57 +3,74 @@ use borrow.Author.Needs.{needs}
 use native.Mathlib.Omega.{arith}
 use mathlib.Core.Path.{_≡_}
 use Prim.Native.Nat.{_<_, _≤_, _-_, _*_}
+use lib.Pow.{pow-lt}
+use Rattle.taxa.specs.Sets.{low}
 use Rattle.taxa.proofs.Counts.{count-pos}
 use Rattle.search.specs.Workspace.{Kept}
 use Rattle.search.specs.Network.{Spare}
 use Rattle.search.specs.Trying.{Tried}
 use Rattle.search.proofs.Workspace.{kept-none, kept-then}
-use Rattle.search.proofs.Group.{stands, tried-one, some-rest, second, Second}
+use Rattle.search.proofs.Group.{pow-off, stands, tried-one, some-rest, second, Second}
 use Rattle.search.proofs.cheapest.Statement.{statement}
 use Rattle.search.proofs.cheapest.Tie as tie
 
 abbrev Inv-loop : tie.InvT-loop
-Inv-loop weights joined limits group n m ws₀ used₀ tree₀ s t best₀ u₀ ws used tree best u =
-    (s < u) × (u ≤ n) × Tried weights joined limits n m group s u (best .cost) (best .other) × Kept (n * m) ws₀ ws × Spare used tree
+Inv-loop weights joined limits group n m ws₀ used₀ tree₀ source t best₀ u₀ ws used tree best u =
+    (low n group < u) × (u ≤ n) × Tried weights joined limits n m group (low n group) u (best .cost) (best .other) × Kept (n * m) ws₀ ws × Spare used tree
 
 abbrev μ-loop : tie.MeasureT-loop
-μ-loop weights joined limits group n m ws₀ used₀ tree₀ s t best₀ u₀ ws used tree best u = n - u
+μ-loop weights joined limits group n m ws₀ used₀ tree₀ source t best₀ u₀ ws used tree best u = n - u
 
 rest-requires : tie.Need-rest-requires Inv-loop μ-loop
 rest-requires c κs = count-pos (c .before .args .n) (omega (arith, c .before .pre .3))
 
 lowest-requires : tie.Need-lowest-requires Inv-loop μ-loop
-lowest-requires c κs = let p = c .before .before .pre in some-rest (c .before .before .args .n) (p .0 .taxa) (p .2) (p .3) (p .4) (c .rest .ensures .0)
+lowest-requires c κs = let p = c .before .before .pre in some-rest (c .before .before .args .n) (p .0 .taxa) (p .2) (p .3) (c .rest .ensures .0)
 
-next : (c : tie.After-lowest Inv-loop μ-loop) → let a = c .before .before .before .args in Second (a .group) (a .n) (a .s) (c .lowest .result)
-next c = let p = c .before .before .before .pre in second (c .before .before .before .args .n) (p .0 .taxa) (p .2) (p .3) (p .4) (c .before .rest .ensures .0) (c .lowest .ensures .0) (c .lowest .ensures .2)
+next : (c : tie.After-lowest Inv-loop μ-loop) → let a = c .before .before .before .args in Second (a .group) (a .n) (low (a .n) (a .group)) (c .lowest .result)
+next c = let p = c .before .before .before .pre in second (c .before .before .before .args .n) (p .0 .taxa) (p .2) (p .3) (c .before .rest .ensures .0) (c .lowest .ensures .0) (c .lowest .ensures .2)
+
+-- The way back from the first flow, and from the loop.
+abbrev found : tie.After-largest Inv-loop μ-loop → tie.After-lowest Inv-loop μ-loop
+found c = c .before .before .before .before
+
+abbrev flowed : tie.At-loop Inv-loop μ-loop → tie.After-largest Inv-loop μ-loop
+flowed c = c .before .before
+
+abbrev begun : tie.After-lowest Inv-loop μ-loop → tie.Start Inv-loop μ-loop
+begun c = c .before .before .before
+
+-- The source is the lowest taxon alone.
+source-low : (c : tie.After-lowest Inv-loop μ-loop) → low (begun c .args .n) (begun c .args .group) < begun c .args .n
+source-low c = let w = next c in omega (arith, w .order, w .small)
 
 largest-requires : tie.Need-largest-requires Inv-loop μ-loop
 largest-requires c κs =
-    let p = c .before .before .before .before .before .before .pre in
-    let w = next (c .before .before .before) in
-    (p .0, p .1, omega (arith, w .order, w .small), w .small, λ e. omega (arith, w .order), p .5)
+    let l = c .before .before .before in
+    let p = begun l .pre in
+    let w = next l in
+    (p .0, p .1, rw (p .4) (pow-lt (source-low l)), w .small, rw (p .4) (pow-off {s = low (begun l .args .n) (begun l .args .group)} (λ e. omega (arith, w .order))), p .5)
 
 add-u : tie.Need-add-u Inv-loop μ-loop
-add-u c = omega (arith, c .before .before .before .before .before .lowest .ensures .1)
+add-u c = omega (arith, found (c .before) .lowest .ensures .1)
 
 loop-holds : tie.Need-loop-holds Inv-loop μ-loop
 loop-holds c =
-    let a = c .before .before .before .before .before .before .before .before .args in
-    let w = next (c .before .before .before .before .before) in
-    let bs : a .s < a .n = omega (arith, w .order, w .small) in
-    let r = c .before .largest .ensures in
-    let l = r .0 in
-    (omega (arith, w .order), omega (arith, w .small), tried-one bs (w .in-t) (w .others) (stands bs l (omega (arith, l .small))), kept-none (a .n * a .m) (c .before .largest .last .1 .1 .1 .1 .1 .0), r .2)
+    let l = found (c .before) in
+    let a = begun l .args in
+    let w = next l in
+    let f = rw (begun l .pre .4) at (c .before .largest .ensures) in
+    (omega (arith, w .order), omega (arith, w .small), tried-one (source-low l) (w .in-t) (w .others) (stands (f .0) (omega (arith, f .0 .small))), kept-none (a .n * a .m) (c .before .largest .last .1 .1 .1 .1 .1 .0), f .2)
 
 attempt-requires : tie.Need-attempt-requires Inv-loop μ-loop
 attempt-requires c κs =
-    let p = c .before .before .before .before .before .before .before .before .before .before .before .before .before .pre in
-    let v = c .before .before .before .before .loop .inv in
-    (p .0, omega (arith, p .1, c .before .before .before .before .before .before .largest .ensures .1 .long, v .3 .long), v .0, omega arith, v .2, v .4)
+    let at = c .before .before .before .before in
+    let p = begun (found (flowed at)) .pre in
+    let v = at .loop .inv in
+    (p .0, omega (arith, p .1, flowed at .largest .ensures .1 .long, v .3 .long), p .2, v .0, omega arith, v .2, v .4)
 
 add-u-2 : tie.Need-add-u-2 Inv-loop μ-loop
-add-u-2 c = omega (arith, c .before .before .before .before .before .loop-test .taken, c .before .before .before .before .before .before .before .before .before .before .before .before .before .before .before .pre .0 .taxa)
+add-u-2 c = omega (arith, c .before .before .before .before .before .loop-test .taken, begun (found (flowed (c .before .before .before .before .before .before))) .pre .0 .taxa)
 
 loop-again : tie.Need-loop-again Inv-loop μ-loop
 loop-again c =
@@ -62,13 +79,13 @@ loop-again c =
     (omega (arith, v .0), omega arith, a .0, kept-then (v .3) (a .1), a .2)
 
 same-length : tie.Need-same-length Inv-loop μ-loop
-same-length c = kept-then (c .before .before .before .largest .ensures .1) (c .before .loop .inv .3) .long
+same-length c = kept-then (flowed (c .before) .largest .ensures .1) (c .before .loop .inv .3) .long
 
 returns : tie.Need-returns Inv-loop μ-loop
 returns c =
     let v = c .before .loop in
-    let e : v .u ≡ c .before .before .before .before .before .before .before .before .before .before .args .n = omega arith in
-    (rw e at (v .inv .2), kept-then (c .before .before .before .largest .ensures .1) (v .inv .3), v .inv .4)
+    let e : v .u ≡ begun (found (flowed (c .before))) .args .n = omega arith in
+    (rw e at (v .inv .2), kept-then (flowed (c .before) .largest .ensures .1) (v .inv .3), v .inv .4)
 
 pub cheapest-spec : {M : Type 1} → statement M
 cheapest-spec =

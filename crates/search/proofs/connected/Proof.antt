@@ -7,15 +7,6 @@ use Rattle.search.proofs.Flows.{no-ready}
 use Rattle.search.proofs.connected.Statement.{statement}
 use Rattle.search.proofs.connected.Tie as tie
 
-mul-clear : tie.Need-mul-clear
-mul-clear c = search needs
-
-clear-requires : tie.Need-clear-requires
-clear-requires c κs = search needs
-
-unused-requires : tie.Need-unused-requires
-unused-requires c κs = search needs
-
 reach-requires : tie.Need-reach-requires
 reach-requires c κs =
     let unused = c .before .before .before in
@@ -23,9 +14,6 @@ reach-requires c κs =
     let start = clear .before .before .before in
     let p = start .pre in
     (rw (clear .clear .ensures) (no-ready (p .0) (start .args .ws .now) (p .1) (unused .unused .ensures)), p .3 .tree, p .2)
-
-same-length : tie.Need-same-length
-same-length c = search needs
 
 returns : tie.Need-returns
 returns c =
@@ -37,4 +25,12 @@ returns c =
     )
 
 pub connected-spec : {M : Type 1} → statement M
-connected-spec = tie.close (tie.spec mul-clear clear-requires unused-requires reach-requires same-length returns)
+connected-spec =
+    tie.close
+    (tie.spec
+    (λ c. search needs)
+    (λ c κs. search needs)
+    (λ c κs. search needs)
+    reach-requires
+    (λ c. search needs)
+    returns)

@@ -1,51 +1,55 @@
 -- `search::divide` meets its contract: the taxon whose flow runs last is the first that is parted for the least.
 use borrow.Author.Needs.{needs}
 use native.Mathlib.Omega.{arith}
-use mathlib.Core.Path.{_≡_, sym, _∙_}
+use mathlib.Core.Path.{_≡_, sym, ap, _∙_}
 use mathlib.Core.List.{List}
-use Prim.Native.Nat.{ℕ, _<_, _*_}
+use Prim.Native.Nat.{ℕ, _<_, _*_, _^_}
+use lib.Pow.{pow-lt}
 use Rattle.taxa.specs.Sets.{low}
 use Rattle.taxa.proofs.Counts.{count-pos}
 use Rattle.taxa.proofs.Members.{below, low-width}
 use Rattle.search.specs.Workspace.{Kept}
 use Rattle.search.specs.Network.{Net, Spare, Lent}
 use Rattle.search.proofs.Workspace.{cleared-kept, kept-then}
-use Rattle.search.proofs.Group.{parted-off, net, stands, divided, divided-free}
+use Rattle.search.proofs.Group.{pow-off, parted-off, net, stands, divided, divided-free}
 use Rattle.search.proofs.divide.Statement.{statement}
 use Rattle.search.proofs.divide.Tie as tie
 
 -- ---- the way back from each call to the one before it
 
-abbrev begun : tie.After-lowest → tie.Start
-begun c = c .before .before .before .before .before .before .before
+abbrev begun : tie.After-single → tie.Start
+begun c = c .before .before .before .before .before .before .before .before
 
-abbrev lowest-found : tie.After-connected → tie.After-lowest
-lowest-found c = c .before .before .before .before .before .before
+abbrev sourced : tie.After-connected → tie.After-single
+sourced c = c .before .before .before .before .before .before
 
 abbrev connected : tie.After-cheapest → tie.After-connected
 connected c = c .before .before .before .before .before .before .before .before .before
 
--- ---- s, the network and the workspace
+-- ---- the source, the network and the workspace
 
-is-low : (c : tie.After-lowest) → c .lowest .result ≡ low (begun c .args .n) (begun c .args .group)
-is-low c = let g = begun c .pre .0 in c .lowest .ensures .0 ∙ sym (low-width (g .taxa) (count-pos (begun c .args .n) (omega (arith, g .two))) (g .group))
+is-low : (c : tie.After-single) → c .single .result ≡ 2 ^ low (begun c .args .n) (begun c .args .group)
+is-low c =
+    let g = begun c .pre .0 in
+    c .single .ensures ∙ ap (λ (x : ℕ). 2 ^ x) (c .before .lowest .ensures .0 ∙ sym (low-width (g .taxa) (count-pos (begun c .args .n) (omega (arith, g .two))) (g .group)))
 
-source : (c : tie.After-lowest) → c .lowest .result < begun c .args .n
-source c = below (begun c .args .n) (begun c .pre .0 .group) (c .lowest .ensures .2)
+fits : (c : tie.After-single) → c .single .result < 2 ^ begun c .args .n
+fits c = omega (arith, c .single .ensures, pow-lt (below (begun c .args .n) (begun c .pre .0 .group) (c .before .lowest .ensures .2)))
 
-network : (c : tie.After-lowest) →
+network : (c : tie.After-single) →
     let a = begun c .args in
-    Net (a .weights .now) (c .before .network-of .last .1 .1 .1 .1 .1 .0) (c .before .network-of .last .1 .1 .1 .1 .1 .1 .0) (a .n) (a .m)
+    let made = c .before .before .network-of .last in
+    Net (a .weights .now) (made .1 .1 .1 .1 .1 .0) (made .1 .1 .1 .1 .1 .1 .0) (a .n) (a .m)
 network c =
-    let made = c .before .network-of .ensures in
-    net (begun c .pre .0) (made .0) (made .1) (λ k b. omega (arith, c .before .before .before .before .before .before .shared-slice-known .given k))
+    let made = c .before .before .network-of .ensures in
+    net (begun c .pre .0) (made .0) (made .1) (λ k b. omega (arith, c .before .before .before .before .before .before .before .shared-slice-known .given k))
 
 -- The lent lists, with room as before.
-lent : (c : tie.After-lowest) {U Y : List ℕ} → Spare U Y → Lent (c .before .network-of .last .1 .1 .1 .1 .1 .0) (c .before .network-of .last .1 .1 .1 .1 .1 .1 .0) U Y
-lent c s = let made = c .before .network-of .ensures in record { joins = made .0 .long; limits = made .1 .long; spare = s }
+lent : (c : tie.After-single) {U Y : List ℕ} → Spare U Y → let made = c .before .before .network-of .last in Lent (made .1 .1 .1 .1 .1 .0) (made .1 .1 .1 .1 .1 .1 .0) U Y
+lent c s = let made = c .before .before .network-of .ensures in record { joins = made .0 .long; limits = made .1 .long; spare = s }
 
-emptied : (c : tie.After-connected) → let a = begun (lowest-found c) .args in Kept (a .n * a .m) (a .ws .now) (c .connected .last .1 .1 .1 .1 .1 .0)
-emptied c = let start = begun (lowest-found c) in cleared-kept (start .args .ws .now) (c .connected .ensures .1) (start .pre .1)
+emptied : (c : tie.After-connected) → let a = begun (sourced c) .args in Kept (a .n * a .m) (a .ws .now) (c .connected .last .1 .1 .1 .1 .1 .0)
+emptied c = let start = begun (sourced c) in cleared-kept (start .args .ws .now) (c .connected .ensures .1) (start .pre .1)
 
 -- ---- what the calls ask for
 
@@ -56,21 +60,21 @@ lowest-requires : tie.Need-lowest-requires
 lowest-requires c κs = let start = c .before .before .before .before .before .before in count-pos (start .args .n) (omega (arith, start .pre .0 .two))
 
 connected-requires : tie.Need-connected-requires
-connected-requires c κs = let l = c .before .before .before .before .before in (network l, begun l .pre .1, source l, begun l .pre .2 .spare)
+connected-requires c κs = let l = c .before .before .before .before .before in (network l, begun l .pre .1, fits l, begun l .pre .2 .spare)
 
 cheapest-requires : tie.Need-cheapest-requires
 cheapest-requires c κs =
     let met = c .before .before .before .before .before .before .before .before in
-    let l = lowest-found met in
+    let l = sourced met in
     let p = begun l .pre in
     (network l, omega (arith, p .1, emptied met .long), p .0 .group, p .0 .two, is-low l, met .connected .ensures .2)
 
 largest-requires : tie.Need-largest-requires
 largest-requires c κs =
     let least = c .before .before .before .before .before .before in
-    let l = lowest-found (connected least) in
+    let l = sourced (connected least) in
     let r = least .cheapest .ensures in
-    (network l, omega (arith, begun l .pre .1, emptied (connected least) .long, r .1 .long), source l, r .0 .below, λ e. parted-off (r .0) e, r .2)
+    (network l, omega (arith, begun l .pre .1, emptied (connected least) .long, r .1 .long), fits l, r .0 .below, rw (is-low l) (pow-off {s = low (begun l .args .n) (begun l .args .group)} (λ e. parted-off (r .0) e)), r .2)
 
 -- ---- what comes back
 
@@ -78,11 +82,12 @@ largest-requires c κs =
 returns : tie.Need-returns
 returns c =
     let met = c .before .before .before .before in
-    let d = met .connected .ensures in
-    let l = lowest-found met in
+    let l = sourced met in
+    let d = rw (is-low l) at (met .connected .ensures) in
     let a = begun l .args in
-    let p = begun l .pre in (
-      divided-free (p .0) (l .before .network-of .ensures .0) (l .before .network-of .ensures .1) (a .ws .now) (network l) (p .1) (is-low l) (d .0) (d .1) (c .before .before .difference .ensures) (c .lowest2 .ensures .0) (c .lowest2 .ensures .2),
+    let p = begun l .pre in
+    let made = l .before .before .network-of .ensures in (
+      divided-free (p .0) (made .0) (made .1) (a .ws .now) (network l) (p .1) (d .0) (d .1) (c .before .before .difference .ensures) (c .lowest2 .ensures .0) (c .lowest2 .ensures .2),
       emptied met,
       lent l (d .2),
     )
@@ -92,9 +97,10 @@ returns-2 : tie.Need-returns-2
 returns-2 c =
     let least = c .before .before .before .before .before .before .before .before in
     let r = least .cheapest .ensures in
-    let l = lowest-found (connected least) in
-    let f = c .before .largest .ensures in (
-      divided (begun l .pre .0) (l .before .network-of .ensures .0) (l .before .network-of .ensures .1) (rw (is-low l) at (r .0)) (rw (is-low l) at (stands (source l) (f .0) (omega (arith, f .0 .small)))),
+    let l = sourced (connected least) in
+    let made = l .before .before .network-of .ensures in
+    let f = rw (is-low l) at (c .before .largest .ensures) in (
+      divided (begun l .pre .0) (made .0) (made .1) (r .0) (stands (f .0) (omega (arith, f .0 .small))),
       kept-then (emptied (connected least)) (kept-then (r .1) (f .1)),
       lent l (f .2),
     )
@@ -105,7 +111,7 @@ divide-spec =
     (tie.spec
     network-of-requires
     lowest-requires
-    (λ c. search needs)
+    (λ c κs. search needs)
     connected-requires
     (λ c κs. search needs)
     (λ c κs. search needs)

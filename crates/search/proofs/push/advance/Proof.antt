@@ -14,11 +14,11 @@ use Rattle.search.proofs.push.advance.Statement.{statement}
 use Rattle.search.proofs.push.advance.Tie as tie
 
 abbrev Inv-loop : tie.InvT-loop
-Inv-loop weights joined limits n m ws₀ used₀ tree s t size goal first met d j₀ ws used j =
-    Under weights joined limits n m ws₀ used₀ s t size met tree d ws used j
+Inv-loop weights joined limits n m ws₀ used₀ tree sources t size goal first met d j₀ ws used j =
+    Under weights joined limits n m ws₀ used₀ sources t size met tree d ws used j
 
 abbrev μ-loop : tie.MeasureT-loop
-μ-loop weights joined limits n m ws₀ used₀ tree s t size goal first met d j₀ ws used j = turnOf tree j
+μ-loop weights joined limits n m ws₀ used₀ tree sources t size goal first met d j₀ ws used j = turnOf tree j
 
 -- The way back from the test of t to the start.
 abbrev begun : tie.Else1 Inv-loop μ-loop → tie.Start Inv-loop μ-loop
@@ -47,7 +47,7 @@ element-copy-out-index : tie.Need-element-copy-out-index Inv-loop μ-loop
 element-copy-out-index c = omega (arith, t-low (c .before .before))
 
 reach-requires : tie.Need-reach-requires Inv-loop μ-loop
-reach-requires c κs = let p = c .before .before .before .before .before .before .before .pre in (p .0 .ready, p .1, p .0 .source)
+reach-requires c κs = let p = c .before .before .before .before .before .before .before .pre in (p .0 .ready, p .1, p .0 .sources)
 
 cast-contains : tie.Need-cast-contains Inv-loop μ-loop
 cast-contains c = omega (arith, t-low (c .before .before .before .before .before .before .before .before))
@@ -136,19 +136,19 @@ loop-again c =
     let h = rw (index, c .before .before .before .before .index3 .ensures) at (c .before .step .ensures) in
     rw index (under-step u (not-root u (at .if2 .taken)) (h .0) (h .1) (h .2))
 
--- The loop ends at s.
-ends : (c : tie.Else2 Inv-loop μ-loop) → c .before .before .loop .j ≡ begun (c .before .before .before .before) .args .s
+-- The loop ends at a source.
+ends : (c : tie.Else2 Inv-loop μ-loop) → has (begun (c .before .before .before .before) .args .sources) (c .before .before .loop .j) ≡ true
 ends c = is-root (c .before .before .loop .inv) (omega arith)
 
 -- All of the path has been pushed.
 pushed : (c : tie.Else2 Inv-loop μ-loop) →
     let a = begun (c .before .before .before .before) .args in
     let r = c .before .before .before .before .before .before .reach in
-    Advanced (a .weights .now) (a .joined .now) (a .limits .now) (a .n) (a .m) (c .before .before .loop .ws) (c .before .before .loop .used) (a .s) (a .t) (a .size)
+    Advanced (a .weights .now) (a .joined .now) (a .limits .now) (a .n) (a .m) (c .before .before .loop .ws) (c .before .before .loop .used) (a .sources) (a .t) (a .size)
     (a .size + widthOf (r .last .1 .1 .1 .1 .1 .1 .1 .0) (a .t)) (r .result)
 pushed c =
     let x = c .before .before .before .before in
-    went (rw (ends c) at (c .before .before .loop .inv)) (reached x) (x .before .before .reach .ensures .0 .tree .link (begun x .args .t) (reached x) (begun x .pre .0 .apart) .some)
+    went (c .before .before .loop .inv) (ends c) (reached x) (x .before .before .reach .ensures .0 .tree .link (begun x .args .t) (reached x) (begun x .pre .0 .apart) .some)
 
 add-t19 : tie.Need-add-t19 Inv-loop μ-loop
 add-t19 c = omega (arith, size-small (pushed c .stage .flowing))

@@ -1,55 +1,55 @@
--- `reach::plant` meets its contract: two stores at s.
+-- `reach::plant` meets its contract. The invariant: all sources but those left are planted.
 use borrow.Author.Needs.{needs}
 use native.Mathlib.Omega.{arith}
-use Rattle.search.proofs.Reaching.{planted}
+use mathlib.Core.Path.{_≡_, sym, ap, _∙_}
+use Prim.Native.Nat.{ℕ, _^_}
+use Rattle.taxa.specs.Sets.{_∖_}
+use Rattle.search.specs.Reaching.{Planted}
+use Rattle.search.proofs.Reaching.{plant-none, plant-one}
 use Rattle.search.proofs.reach.plant.Statement.{statement}
 use Rattle.search.proofs.reach.plant.Tie as tie
 
-mul-tree : tie.Need-mul-tree
-mul-tree c = search needs
+abbrev Inv-loop : tie.InvT-loop
+Inv-loop tree₀ sources left₀ tree left = Planted tree sources left
 
-add-tree : tie.Need-add-tree
-add-tree c = search needs
+abbrev μ-loop : tie.MeasureT-loop
+μ-loop tree₀ sources left₀ tree left = left
 
-mul-tree-2 : tie.Need-mul-tree-2
-mul-tree-2 c = search needs
+loop-holds : tie.Need-loop-holds Inv-loop μ-loop
+loop-holds c = plant-none (c .args .sources) (c .pre)
 
-element-write-tree : tie.Need-element-write-tree
-element-write-tree c = search needs
+element-write-tree : tie.Need-element-write-tree Inv-loop μ-loop
+element-write-tree c = omega (arith, c .lowest .ensures .1)
 
-mul-tree-3 : tie.Need-mul-tree-3
-mul-tree-3 c = search needs
+element-write-tree-2 : tie.Need-element-write-tree-2 Inv-loop μ-loop
+element-write-tree-2 c = omega (arith, c .lowest .ensures .1)
 
-add-tree-2 : tie.Need-add-tree-2
-add-tree-2 c = search needs
+loop-again : tie.Need-loop-again Inv-loop μ-loop
+loop-again c =
+    let l = c .before in
+    let v = l .before .before .loop in
+    let q : c .rest .result ≡ v .left ∖ 2 ^ l .lowest .result = c .rest .ensures .0 ∙ ap (λ (y : ℕ). v .left ∖ 2 ^ y) (sym (l .lowest .ensures .0)) in
+    plant-one (v .inv) (l .lowest .result) 4294967295 (l .lowest .ensures .1) (omega arith) q
 
-mul-tree-4 : tie.Need-mul-tree-4
-mul-tree-4 c = search needs
-
-element-write-tree-2 : tie.Need-element-write-tree-2
-element-write-tree-2 c = search needs
-
-cast-single : tie.Need-cast-single
-cast-single c = search needs
-
-single-requires : tie.Need-single-requires
-single-requires c κs = search needs
-
-returns : tie.Need-returns
-returns c = (c .single .ensures, planted (c .before .args .tree .now) (c .before .args .s) 4294967295 (c .before .pre .1) (c .before .pre .0) (omega arith))
+returns : tie.Need-returns Inv-loop μ-loop
+returns c =
+    let e : c .before .loop .left ≡ 0 = omega arith in
+    rw e at (c .before .loop .inv)
 
 pub plant-spec : {M : Type 1} → statement M
 plant-spec =
     tie.close
     (tie.spec
-    mul-tree
-    add-tree
-    mul-tree-2
+    Inv-loop
+    μ-loop
+    loop-holds
+    (λ c κs. search needs)
+    (λ c. search needs)
+    (λ c. search needs) (λ c. search needs) (λ c. search needs)
     element-write-tree
-    mul-tree-3
-    add-tree-2
-    mul-tree-4
+    (λ c. search needs) (λ c. search needs) (λ c. search needs)
     element-write-tree-2
-    cast-single
-    single-requires
+    (λ c κs. search needs)
+    (λ c. c .rest .ensures .1)
+    loop-again
     returns)

@@ -9,19 +9,18 @@ use Rattle.search.proofs.reach.reach.Statement.{statement}
 use Rattle.search.proofs.reach.reach.Tie as tie
 
 abbrev Inv-loop : tie.InvT-loop
-Inv-loop weights joined limits n m ws used tree₀ s goal first start met₀ next₀ tree met next = Swept weights joined limits n m ws s met next tree goal 0
+Inv-loop weights joined limits n m ws used tree₀ sources goal first met₀ next₀ tree met next = Swept weights joined limits n m ws sources met next tree goal 0
 
 abbrev μ-loop : tie.MeasureT-loop
-μ-loop weights joined limits n m ws used tree₀ s goal first start met₀ next₀ tree met next = all n - met
+μ-loop weights joined limits n m ws used tree₀ sources goal first met₀ next₀ tree met next = all n - met
 
 plant-requires : tie.Need-plant-requires Inv-loop μ-loop
-plant-requires c κs = let p = c .before .before .pre in (omega (arith, p .2, p .0 .net .taxa), p .1)
+plant-requires c κs = c .before .before .pre .1
 
 sweep-requires : tie.Need-sweep-requires Inv-loop μ-loop
 sweep-requires c κs =
     let p = c .before .before .before .before .pre in
-    let r = c .before .plant .ensures in
-    (p .0, rw (r .0) (root-alone (p .2) (omega (arith, p .2, p .0 .net .taxa)) (r .1)))
+    (p .0, root-alone (p .0 .net .taxa) (p .2) (c .before .plant .ensures))
 
 loop-holds : tie.Need-loop-holds Inv-loop μ-loop
 loop-holds c = swept-none (c .sweep .ensures .tree)

@@ -12,11 +12,11 @@ use Rattle.search.proofs.reach.through.Statement.{statement}
 use Rattle.search.proofs.reach.through.Tie as tie
 
 abbrev Inv-loop : tie.InvT-loop
-Inv-loop weights joined limits n m ws used tree₀ s met i c g stamp all₀ left₀ tree all left =
-    ((x : ℕ) → has left x ≡ true → (has (nth joined c) x ≡ true) × (has all x ≡ false)) × Passed weights joined limits n m ws s met all tree i c left
+Inv-loop weights joined limits n m ws used tree₀ sources met i c g stamp all₀ left₀ tree all left =
+    ((x : ℕ) → has left x ≡ true → (has (nth joined c) x ≡ true) × (has all x ≡ false)) × Passed weights joined limits n m ws sources met all tree i c left
 
 abbrev μ-loop : tie.MeasureT-loop
-μ-loop weights joined limits n m ws used tree₀ s met i c g stamp all₀ left₀ tree all left = left
+μ-loop weights joined limits n m ws used tree₀ sources met i c g stamp all₀ left₀ tree all left = left
 
 -- The way back from the loop to the gate, and to the start.
 abbrev begun : tie.After-gate-at Inv-loop μ-loop → tie.Start Inv-loop μ-loop
