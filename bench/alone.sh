@@ -1,5 +1,5 @@
-# Sourced by the scripts that measure part of the crates by itself, at the repository's top, after tests/env.sh. `alone` makes a crate that exports
-# a function to C, in copies of the crates and of what was proved of them, below target/alone, and its static library there.
+# Sourced by the scripts of this folder, at the repository's top, after tests/env.sh. `alone` makes a crate that exports a function to C, in copies of
+# the crates and of what was proved of them, below target/alone, and its static library there.
 
 room=$(mktemp -d)
 trap 'rm -rf "$room"' EXIT
@@ -20,4 +20,11 @@ alone() { # NAME DEPENDENCIES, its source on standard input
     cat >"$work/crates/$1/src/lib.rt"
     echo "$1: $2" >>"$work/crates.txt"
     (cd "$work" && quietly rt staticlib "$1")
+}
+
+# What is timed has each function at a page's start: under the emulator a loop that runs over a page's end takes up to 2.5 times as long, and which
+# one does is chance. The flags are for what is compiled, the function is for a library.
+apart_flags=(-falign-functions=4096)
+apart() { # LIBRARY COPY, and more words for objcopy
+    "${cc%gcc}objcopy" --set-section-alignment '.text.*=4096' "${@:3}" "$1" "$2"
 }

@@ -12,17 +12,15 @@ case "$#${1:-}" in
 esac
 cd "$(dirname "$here")"
 . tests/env.sh
-room=$(mktemp -d)
-trap 'rm -rf "$room"' EXIT
-rt staticlib probe >"$room/log" 2>&1 || { tail -20 "$room/log"; exit 1; }
-parts=(bench/build.c target/staticlib/libprobe.a)
+. bench/alone.sh
+
+quietly rt staticlib probe
+apart target/staticlib/libprobe.a "$room/now.a"
+parts=(bench/build.c "$room/now.a")
 if [ -n "$earlier" ]; then
-    # Each function starts a page: under the emulator a loop that runs over a page's end takes a third more time, and what falls there is chance.
-    apart=("${cc%gcc}objcopy" --set-section-alignment '.text.*=4096')
-    "${apart[@]}" target/staticlib/libprobe.a "$room/now.a"
     # One program cannot have two functions of one name: the earlier build gets another, and nothing else of its library is seen.
-    "${apart[@]}" --redefine-sym probe_build=earlier_build --keep-global-symbol=earlier_build "$earlier" "$room/earlier.a"
+    apart "$earlier" "$room/earlier.a" --redefine-sym probe_build=earlier_build --keep-global-symbol=earlier_build
     parts=(bench/compare.c "$room/now.a" "$room/earlier.a")
 fi
-"$cc" "${c_flags[@]}" "${parts[@]}" -o "$room/build"
+"$cc" "${c_flags[@]}" "${apart_flags[@]}" "${parts[@]}" -o "$room/build"
 ${run[@]+"${run[@]}"} "$room/build"

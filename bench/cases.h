@@ -1,5 +1,5 @@
-// What the programs of bench/ share: ten kinds of matrices of 64 taxa and 256 columns, fixed, as lists and as a matrix file; processor time; and the
-// stack that an operation uses, found by painting a stack of its own. Whoever includes it defines _GNU_SOURCE before anything else.
+// What the programs of bench/ share: ten kinds of matrices of up to 64 taxa and 256 columns, fixed, as lists and as a matrix file; processor time; and
+// the stack that an operation uses, found by painting a stack of its own. C and C++; whoever includes it defines _GNU_SOURCE before anything else.
 #ifndef CASES_H
 #define CASES_H
 
@@ -11,13 +11,15 @@
 
 enum { N = 64, M = 256, FILE_LENGTH = 12 + 22 * M, OUT_LENGTH = 20 + 16 * (N - 1) + 22 * M, STACK = 1 << 20 };
 enum { RANDOM, DENSE, SPARSE, INTERVAL, NESTED, NOISY, UNKNOWN, CLUSTERS, COMBS, PAIRS, KINDS, CASES = 2 * KINDS };
+static int taxa, columns;  // of the case made last
 static uint8_t file[FILE_LENGTH];
+static size_t file_length;
 static uint16_t weights[M];
 static uint64_t ones0[M], zeros0[M];
 static int32_t ws[N * M];
 static uint64_t state;
 
-// A case is a kind with light weights, 1 to 4, then with heavy ones, 1 to 65535.
+// A case is a kind with light weights, all 1, then with heavy ones, 1 to 65535.
 static inline int kind_of(int k) { return k / 2; }
 static inline int is_heavy(int k) { return k % 2; }
 static inline const char *weight_name(int k) { return is_heavy(k) ? "heavy" : "light"; }
@@ -53,8 +55,8 @@ static inline int is_one(int kind, unsigned c, unsigned i, uint64_t x, unsigned 
     case DENSE: return x < 85;
     case SPARSE: return x < 8;
     case INTERVAL: return (a <= i && i <= b) != (x < 5);
-    case NESTED: return i >= c % 63;  // the deepest tree
-    case NOISY: return (i >= c % 63) != (x < 5);
+    case NESTED: return i >= c % (unsigned)(taxa - 1);  // the deepest tree
+    case NOISY: return (i >= c % (unsigned)(taxa - 1)) != (x < 5);
     case CLUSTERS: return (i / 8 == a / 8) != (x < 10);
     case COMBS: return (i % 2 == a % 2) != (x < 15);
     default: return i == a || i == b;
@@ -68,10 +70,10 @@ static inline int is_known(int kind, int one) {
 }
 
 static inline void column(int kind, int c) {
-    unsigned a = (unsigned)(rnd() % N), b = (unsigned)(rnd() % N);
+    unsigned n = (unsigned)taxa, a = (unsigned)(rnd() % n), b = (unsigned)(rnd() % n);
     if (a > b) { unsigned x = a; a = b; b = x; }
     ones0[c] = zeros0[c] = 0;
-    for (unsigned i = 0; i < N; i++) {
+    for (unsigned i = 0; i < n; i++) {
         uint64_t x = rnd() % 100;
         int one = is_one(kind, (unsigned)c, i, x, a, b);
         if (!is_known(kind, one)) continue;
@@ -79,16 +81,19 @@ static inline void column(int kind, int c) {
     }
 }
 
-// Case k into the lists and the file.
-static inline void make_case(int k) {
+// Case k with n taxa and m columns into the lists and the file.
+static inline void make_case(int k, int n, int m) {
+    taxa = n;
+    columns = m;
     state = 88172645463325252ull + (uint64_t)kind_of(k);
-    uint8_t *at = number(number(head(file, 4, 1), N, 2), M, 2);
-    for (int c = 0; c < M; c++) {
-        weights[c] = (uint16_t)(is_heavy(k) ? 1 + rnd() % 65535 : 1 + rnd() % 4);
+    uint8_t *at = number(number(head(file, 4, 1), (unsigned)n, 2), (unsigned)m, 2);
+    for (int c = 0; c < m; c++) {
+        uint64_t heavy = 1 + rnd() % 65535;  // drawn for light weights too, so that both have the same columns
+        weights[c] = (uint16_t)(is_heavy(k) ? heavy : 1);
         column(kind_of(k), c);
         at = number(number(number(head(at, 18, 2), weights[c], 2), ones0[c], 8), zeros0[c], 8);
     }
-    head(at, 0, 3);
+    file_length = (size_t)(head(at, 0, 3) - file);
 }
 
 // Runs an operation on a stack of its own, painted before; the lowest byte that changed says how deep it went.

@@ -1,103 +1,186 @@
-// The method of crate `search` as plain C, for comparison: the same hops, the same order, the same stops.
-#include <stdint.h>
-#include <string.h>
+// The method of crate `search` as plain C, for comparison: the same flows, hops, order and stops.
+#ifndef PLAIN_H
+#define PLAIN_H
 
+#include "walk.h"
+
+// A group's network as the crate lends it: what each column joins, what it lets through, what of that is in use.
+static uint64_t joined[M];
+static uint32_t limits[M], used[M];
+
+// How each taxon was reached: from which, through which column, at which turn, and the least that a hop of the way carries.
+static struct {
+    uint32_t from, via, turn, width;
+} tree[N];
+
+// The weights, and a flow: what taxon i sends through column c, less what it takes, is ws[c * n + i].
 typedef struct {
-    uint32_t cost;
+    const uint16_t *weights;
+    int n, m;
+    int32_t *ws;
+} Flow;
+
+// The size of a flow, and the taxa reached from its sources.
+typedef struct {
+    uint32_t size;
     uint64_t side;
-    unsigned other;
-} Split;
+} Cut;
 
-static uint64_t joined[256];
-static uint32_t room[256];
-static unsigned from[64], via[64];
-static uint32_t width[64];
+static const uint32_t UNBOUNDED = ~0u;
+enum { NOBODY = 64 };
 
-static unsigned low(uint64_t x) { return (unsigned)__builtin_ctzll(x); }
 static uint32_t least(uint32_t x, uint32_t y) { return x < y ? x : y; }
 static uint32_t most(uint32_t x, uint32_t y) { return x < y ? y : x; }
+static uint32_t above(int32_t f) { return f > 0 ? (uint32_t)f : 0; }
 
-static void limits(const uint16_t *w, const uint64_t *ones, const uint64_t *zeros, uint64_t group, int m) {
-    for (int c = 0; c < m; c++) {
-        uint32_t z = (uint32_t)__builtin_popcountll(zeros[c] & group);
+static void network_of(Flow f, const uint64_t *ones, const uint64_t *zeros, uint64_t group) {
+    for (int c = 0; c < f.m; c++) {
+        uint32_t z = size_of(zeros[c] & group);
         joined[c] = z ? ones[c] & group : 0;
-        room[c] = w[c] * z;
+        limits[c] = f.weights[c] * z;
     }
 }
 
-// The taxa that hops reach from s, or some of them with t.
-static uint64_t reach(const uint16_t *w, int n, int m, const int32_t *ws, unsigned s, uint64_t t) {
-    uint64_t reached = 1ull << s, layer = reached, next = 0;
-    width[s] = ~0u;
-    while (layer) {
-        unsigned i = low(layer);
-        layer &= layer - 1;
-        for (int c = 0; c < m; c++) {
-            uint64_t left = joined[c] & ~reached;
-            if (!left || !(joined[c] >> i & 1)) continue;
-            const int32_t *f = ws + c * n;
-            uint32_t sends = (uint32_t)((int32_t)w[c] - f[i]);
-            if (!sends) continue;
-            uint32_t back = f[i] < 0 ? (uint32_t)-f[i] : 0;
-            for (; left; left &= left - 1) {
-                unsigned j = low(left);
-                uint32_t takes = (uint32_t)((int32_t)w[c] + f[j]);
-                uint32_t out = f[j] > 0 ? (uint32_t)f[j] : 0;
-                uint32_t d = least(least(sends, takes), most(most(back, out), room[c]));
-                if (!d) continue;
-                reached |= 1ull << j;
-                next |= 1ull << j;
-                from[j] = i;
-                via[j] = (unsigned)c;
-                width[j] = least(d, width[i]);
-            }
-            if (reached & t) return reached;
-        }
-        if (!layer) {
-            layer = next;
-            next = 0;
-        }
+// Of the taxa of x, one whose hop through column c leads wherever a hop of any of them leads.
+static unsigned sender(Flow f, int c, uint64_t x) {
+    const int32_t *sent = f.ws + c * f.n;
+    unsigned found = NOBODY;
+    for (; x; x = rest(x)) {
+        unsigned i = low(x);
+        if (sent[i] == f.weights[c]) continue;
+        if (sent[i] < 0 || used[c] < limits[c]) return i;
+        found = i;
     }
-    return reached;
+    return found;
 }
 
-static int32_t above(int32_t f) { return f > 0 ? f : 0; }
+// The taxa that a hop from i through column c reaches join.
+static uint64_t through(Flow f, uint64_t met, unsigned i, int c) {
+    const int32_t *sent = f.ws + c * f.n;
+    int32_t w = f.weights[c];
+    uint32_t sends = (uint32_t)(w - sent[i]), room = most(above(-sent[i]), limits[c] - used[c]), turn = size_of(met);
+    uint64_t all = met;
+    for (uint64_t left = joined[c] & ~met; left; left = rest(left)) {
+        unsigned j = low(left);
+        uint32_t carries = least(least(sends, (uint32_t)(w + sent[j])), most(room, above(sent[j])));
+        if (!carries) continue;
+        tree[j].from = i;
+        tree[j].via = (uint32_t)c;
+        tree[j].turn = turn;
+        tree[j].width = least(carries, tree[i].width);
+        all |= single(j);
+    }
+    return all;
+}
 
-static void push(int n, int32_t *ws, unsigned s, unsigned t) {
-    int32_t d = (int32_t)width[t];
-    for (unsigned j = t; j != s; j = from[j]) {
-        int32_t *a = ws + via[j] * (unsigned)n + from[j], *b = ws + via[j] * (unsigned)n + j;
-        room[via[j]] += (uint32_t)(above(*a) + above(*b) - above(*a + d) - above(*b - d));
-        *a += d;
-        *b -= d;
+static uint64_t pass(Flow f, uint64_t met, int c) {
+    if (!(joined[c] & ~met) || !(joined[c] & met)) return met;
+    unsigned i = sender(f, c, joined[c] & met);
+    return i == NOBODY ? met : through(f, met, i, c);
+}
+
+static uint64_t sweep(Flow f, uint64_t met, uint64_t goal, int first) {
+    for (int c = first; c < f.m && !(goal & met); c++) met = pass(f, met, c);
+    return met;
+}
+
+static void plant(uint64_t sources) {
+    for (; sources; sources = rest(sources)) {
+        tree[low(sources)].turn = 0;
+        tree[low(sources)].width = ~0u;
     }
 }
 
-static Split largest(const uint16_t *w, const uint64_t *ones, const uint64_t *zeros, uint64_t group, int n, int m, int32_t *ws, unsigned s, unsigned t, uint32_t bound) {
+// The taxa that hops reach from the sources; some of them, once one of the goal is among them.
+static uint64_t reach(Flow f, uint64_t sources, uint64_t goal, int first) {
+    plant(sources);
+    uint64_t met = 0, next = sweep(f, sources, goal, first);
+    while (met < next) {
+        met = next;
+        next = sweep(f, met, goal, 0);
+    }
+    return met;
+}
+
+// d more from taxon i to taxon j through column c.
+static void step(Flow f, unsigned c, unsigned i, unsigned j, uint32_t d) {
+    int32_t *sent = f.ws + c * (unsigned)f.n;
+    uint32_t before = above(sent[i]) + above(sent[j]);
+    sent[i] += (int32_t)d;
+    sent[j] -= (int32_t)d;
+    used[c] += above(sent[i]) + above(sent[j]) - before;
+}
+
+// If hops reach t, what the path to it carries is pushed along it. The first sweep starts where the last path came to t.
+static Cut advance(Flow f, uint64_t sources, unsigned t, uint32_t size) {
+    uint64_t met = reach(f, sources, single(t), (int)tree[t].via);
+    if (!(met & single(t))) return (Cut){size, met};
+    uint32_t d = tree[t].width;
+    for (unsigned j = t; tree[j].turn; j = tree[j].from) step(f, tree[j].via, tree[j].from, j, d);
+    return (Cut){size + d, met};
+}
+
+static void clear(Flow f) {
+    memset(f.ws, 0, sizeof *f.ws * (size_t)(f.n * f.m));
+    memset(used, 0, sizeof *used * (size_t)f.m);
+}
+
+// One hop from a source to t through each column that joins both; nothing runs yet, so it carries the column's weight.
+static uint32_t direct_hops(Flow f, uint64_t sources, unsigned t) {
     uint32_t size = 0;
-    uint64_t r;
-    memset(ws, 0, sizeof(int32_t) * (size_t)(n * m));
-    limits(w, ones, zeros, group, m);
-    while ((r = reach(w, n, m, ws, s, 1ull << t)) >> t & 1) {
-        if (size >= bound) break;
-        size += width[t];
-        push(n, ws, s, t);
+    for (int c = 0; c < f.m; c++) {
+        uint64_t here = joined[c] & sources;
+        if (!here || !(joined[c] & single(t))) continue;
+        step(f, (unsigned)c, low(here), t, f.weights[c]);
+        size += f.weights[c];
     }
-    return (Split){size, r, t};
+    return size;
 }
 
-static Split plain(const uint16_t *w, const uint64_t *ones, const uint64_t *zeros, uint64_t group, int n, int m, int32_t *ws) {
-    unsigned s = low(group), last = s;
-    memset(ws, 0, sizeof(int32_t) * (size_t)(n * m));
-    limits(w, ones, zeros, group, m);
-    uint64_t r = reach(w, n, m, ws, s, 0);
-    if (r != group) return (Split){0, r, low(group & ~r)};
-    Split best = {~0u, 0, 0};
-    for (uint64_t left = group & (group - 1); left; left &= left - 1) {
-        last = low(left);
-        Split c = largest(w, ones, zeros, group, n, m, ws, s, last, best.cost);
-        if (c.cost < best.cost) best = c;
-    }
-    if (last != best.other) largest(w, ones, zeros, group, n, m, ws, s, best.other, ~0u);
-    return best;
+// A largest flow from the sources to t, or one that is no smaller than the bound.
+static Cut largest(Flow f, uint64_t sources, unsigned t, uint32_t bound) {
+    clear(f);
+    Cut cut = {direct_hops(f, sources, t), single(t)};
+    while (cut.side & single(t) && cut.size < bound) cut = advance(f, sources, t, cut.size);
+    return cut;
 }
+
+// What the columns that join u with a taxon of `lower` weigh.
+static uint32_t tied(Flow f, uint64_t lower, unsigned u) {
+    uint32_t sum = 0;
+    for (int c = 0; c < f.m; c++)
+        if (joined[c] & single(u) && joined[c] & lower) sum += f.weights[c];
+    return sum;
+}
+
+// The first taxon of the group that is parted from its lowest, s, for the least. Of a taxon u, only what parts it from all below it can cost less than
+// what was found for those: a flow from all of them decides, and where columns tie u to them for no less, none is needed.
+static unsigned cheapest(Flow f, uint64_t group, unsigned s) {
+    unsigned other = low(rest(group));
+    uint32_t cost = largest(f, single(s), other, UNBOUNDED).size;
+    for (uint64_t left = rest(rest(group)); left; left = rest(left)) {
+        unsigned u = low(left);
+        uint64_t lower = group & (single(u) - 1);
+        if (cost <= tied(f, lower, u)) continue;
+        uint32_t size = largest(f, lower, u, cost).size;
+        if (cost <= size) continue;
+        cost = size;
+        other = u;
+    }
+    return other;
+}
+
+static Split plain(const uint16_t *weights, const uint64_t *ones, const uint64_t *zeros, uint64_t group, int n, int m, int32_t *ws) {
+    Flow f = {weights, n, m, ws};
+    unsigned s = low(group);
+    network_of(f, ones, zeros, group);
+    clear(f);
+    // No path came before: the first sweep is left out, and whole ones do.
+    uint64_t met = reach(f, single(s), 0, m);
+    if (met != group) return (Split){0, met, low(group & ~met)};
+    unsigned t = cheapest(f, group, s);
+    Cut cut = largest(f, single(s), t, UNBOUNDED);
+    return (Split){cut.size, cut.side, t};
+}
+
+#endif

@@ -39,5 +39,6 @@ pub extern "C" fn search_group(weights: &[u16], ones: &[u64], zeros: &[u64], gro
 }
 RT
 
-"$cc" "${c_flags[@]}" -DRATTLE bench/bench.c "$work/target/staticlib/libport.a" -o "$room/bench"
+apart "$work/target/staticlib/libport.a" "$room/port.a"
+"$cc" "${c_flags[@]}" "${apart_flags[@]}" -DRATTLE bench/bench.c "$room/port.a" -o "$room/bench"
 ${run[@]+"${run[@]}"} "$room/bench"

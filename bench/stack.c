@@ -65,7 +65,7 @@ static int measure(void) {
 int main(int count, char **words) {
     if (count != 2) return 2;
     for (int k = 0; k < CASES; k++) {
-        make_case(k);
+        make_case(k, N, M);
         if (!write_file(words[1], k) || !measure()) {
             printf("%s %s: not written, or refused\n", kind_name(k), weight_name(k));
             return 1;

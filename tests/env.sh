@@ -6,6 +6,7 @@
 #   outline_stack   the stack, in KiB, that the program `outline` has to do with (document 02's C-16)
 #   limit_stack     a function that sets run_limited, the words before a program of target/bin that is to have no more stack than it says
 #   c_flags, cxx_flags   the words after a compiler
+#   add_package     a function that installs one of Debian's packages
 # and installs what is missing from Debian's packages.
 
 machine=$(uname -m)
@@ -14,13 +15,16 @@ command -v rt >/dev/null || { echo "rt, the Rattle toolchain's command, is not i
 kit=${RATTLE_HOME:-$(dirname "$(dirname "$(readlink -f "$(command -v rt)")")")}
 tools=$kit/on/$machine/toolchain
 
+add_package() { # PACKAGE
+    [ "$(id -u)" = 0 ] || { echo "Debian's package $1 is missing: install it" >&2; exit 1; }
+    echo "installing $1"
+    apt-get update -qq >&2 && DEBIAN_FRONTEND=noninteractive apt-get install -y -qq --no-install-recommends "$1" >/dev/null ||
+        { echo "Debian's package $1 could not be installed" >&2; exit 1; }
+}
+
 # Installs a package where its command is missing.
 need() { # COMMAND PACKAGE
-    command -v "$1" >/dev/null && return
-    [ "$(id -u)" = 0 ] || { echo "$1 is missing: install Debian's package $2" >&2; exit 1; }
-    echo "installing $2"
-    apt-get update -qq >&2 && DEBIAN_FRONTEND=noninteractive apt-get install -y -qq --no-install-recommends "$2" >/dev/null ||
-        { echo "Debian's package $2 could not be installed" >&2; exit 1; }
+    command -v "$1" >/dev/null || add_package "$2"
 }
 
 need g++ g++
@@ -34,6 +38,8 @@ aarch64)
     # The emulator finds the x86-64 C and C++ libraries where Debian's cross compiler has them. (Its libm.a names files
     # where it has none, so a static program cannot be linked.)
     cc=x86_64-linux-gnu-gcc cxx=x86_64-linux-gnu-g++ run=("$tools/bin/qemu-x86_64" -L /usr/x86_64-linux-gnu)
+    # Where the C library fills memory with `rep stosb` the emulator goes byte by byte, 50 times as long as the library's other way.
+    run+=(-E GLIBC_TUNABLES=glibc.cpu.hwcaps=-ERMS)
     ;;
 *)
     echo "no way is known to run x86-64 code on this machine, $machine" >&2
