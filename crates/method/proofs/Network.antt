@@ -11,10 +11,11 @@ use lib.Arith.{le-zero}
 use lib.Dec.{ltb}
 use borrow.Author.Tests.{ltb-false}
 use Rattle.taxa.specs.Sum.{sum, inside, outside}
-use Rattle.taxa.specs.Sets.{has, _∈_, _∉_, _⊆_, _∩_, _∖_, count, low}
+use Rattle.taxa.specs.Sets.{has, _∈_, _∉_, _⊆_, _∩_, _∖_, mass, unit, count, low}
 use Rattle.taxa.proofs.Sums.{sum-≡}
 use Rattle.taxa.proofs.Members.{none, out as outside-of, in∖, below, low-in, ∩-part, ∩-over-∖, ∩-⊆ʳ}
-use Rattle.taxa.proofs.Counts.{count-pos, count-times, over-inside, over-outside}
+use Rattle.taxa.proofs.Masses.{mass-inside, mass-outside, mass-times, mass-≡}
+use Rattle.taxa.proofs.Counts.{count-pos}
 use Rattle.method.specs.Split.{Column, share, Division, parted, divisionCost, side}
 use Rattle.method.specs.Flow.{joined, cap, through, cut, cutCost, Flow, Reach, start, step, arcs, limits}
 use Rattle.method.proofs.Cuts.{MinCut, weak, min-cut}
@@ -30,14 +31,19 @@ times-min w a b = go (decLt a b)
 module _ (k S : ℕ) (c : Column) (A : ℕ) (s : A ⊆ S) where
   open Column c using (weight as w)
 
+  -- w for each taxon.
+  times : (x : ℕ) → mass k (λ i. w) x ≡ w * count k x
+  unfolding count
+  times x = mass-≡ k (λ i b. omega arith) x ∙ mass-times k unit w x
+
   -- What A can send into the column, and what the others can.
   inside-is : sum k (inside (has A) (cap k S c)) ≡ w * count k (joined k S c ∩ A)
   unfolding cap
-  inside-is = over-inside k (λ i. w) (joined k S c) A ∙ count-times k w (joined k S c ∩ A)
+  inside-is = mass-inside k (λ i. w) (joined k S c) A ∙ times (joined k S c ∩ A)
 
   outside-is : sum k (outside (has A) (cap k S c)) ≡ w * count k (joined k S c ∖ A)
   unfolding cap
-  outside-is = over-outside k (λ i. w) (joined k S c) A ∙ count-times k w (joined k S c ∖ A)
+  outside-is = mass-outside k (λ i. w) (joined k S c) A ∙ times (joined k S c ∖ A)
 
   cut-is : cut k (cap k S c) (through k S c) (has A) ≡ w * share k S A c
   unfolding share through joined
