@@ -7,12 +7,12 @@ use Prim.Native.Nat.{ℕ, zero, suc, _*_, _^_, _≤_, _<_}
 use native.Mathlib.Nat.{eq-or-lt-of-le, le-of-suc-le-suc, mul-zero}
 use native.Mathlib.Decide.{decLt}
 use native.Mathlib.Omega.{arith}
-use Rattle.taxa.specs.Sets.{_∈_, _∉_, _⊆_, Disjoint, _∩_, _∖_, within, count, low}
+use Rattle.taxa.specs.Sets.{_∈_, _∉_, _⊆_, Disjoint, _∩_, _∖_, within, mass, Positive, count, low}
 use Rattle.taxa.specs.Groups.{NestedOrDisjoint}
 use Rattle.taxa.proofs.Groups.{pair-sym}
 use Rattle.taxa.proofs.Sums.{sum-none}
 use Rattle.taxa.proofs.Members.{none as nothing, in?, in∩, in∖, empty as all-out, ⊆-refl, ⊆-trans, ∩-⊆, ∩-⊆ʳ, within-⊆, pow-in, pow-⊆}
-use Rattle.taxa.proofs.Counts.{count-none}
+use Rattle.taxa.proofs.Masses.{mass-none}
 use Rattle.method.specs.Split.{Column, Same, share, Division, divisionCost, splitCost, after, splitParts}
 use Rattle.method.specs.Tree.{Group, Walk, walked, total, node, build, Clade, group, single, Fills, Laminar, Fits}
 use Rattle.method.proofs.Flips.{Proper}
@@ -90,7 +90,7 @@ clades-laminar k Z {gs} l = record { pair = go }
 
 -- ---- a fitting family has a division that costs nothing
 
-module _ (k m : ℕ) {family : ℕ → Type 0} (lam : Laminar family) (cols : ℕ → Column) (S : ℕ) (fits : S < 2 ^ k) (two : 1 < count k S) (fit : Chosen family m S cols) where
+module _ (k : ℕ) (μ : ℕ → ℕ) (m : ℕ) {family : ℕ → Type 0} (lam : Laminar family) (cols : ℕ → Column) (S : ℕ) (fits : S < 2 ^ k) (two : 1 < count k S) (fit : Chosen family m S cols) where
   -- The member G does not lie across A: it has all of S, or has of S only what is in A, or nothing of A.
   abbrev Clear : ℕ → ℕ → Type 0
   Clear A G = S ⊆ G ⊎ (G ∩ S ⊆ A ⊎ Disjoint A G)
@@ -102,7 +102,7 @@ module _ (k m : ℕ) {family : ℕ → Type 0} (lam : Laminar family) (cols : �
     clear : (d : ℕ) → d < c → Clear A (fit .pick d)
 
   start : Free 0 (2 ^ low k S)
-  start = record { division = alone k m cols S fits two; uncut = λ {G} g. ⊎-elim inl (λ o. inr (inr o)) (single-in (low k S) G); clear = λ d l. absurd (omega arith) }
+  start = record { division = alone k μ m cols S fits two; uncut = λ {G} g. ⊎-elim inl (λ o. inr (inr o)) (single-in (low k S) G); clear = λ d l. absurd (omega arith) }
 
   -- One column more: its member takes the place of A where it has all of A and not all of S.
   more : (c : ℕ) → c < m → {A : ℕ} → Free c A → (B : ℕ) × Free (suc c) B
@@ -156,73 +156,73 @@ module _ (k m : ℕ) {family : ℕ → Type 0} (lam : Laminar family) (cols : �
   find (suc c) l = more c l (find c (omega arith) .1)
 
   -- Across it no column has ones on both sides and a zero.
-  free-share : {A : ℕ} → Free m A → (c : ℕ) → c < m → share k S A (cols c) ≡ 0
+  free-share : {A : ℕ} → Free m A → (c : ℕ) → c < m → share k μ S A (cols c) ≡ 0
   unfolding share
   free-share {A} f c b = go (f .clear c b)
     where
       fl : Fills S (cols c) (fit .pick c)
       fl = fit .fills c b
 
-      none : (x X : ℕ) → ((i : ℕ) → i ∈ x → i ∉ X) → count k (x ∩ X) ≡ 0
-      none x X n = ap (count k) (all-out (λ i h. let (a, b) = in∩ x X .0 h in n i a b)) ∙ count-none k
+      none : (x X : ℕ) → ((i : ℕ) → i ∈ x → i ∉ X) → mass k μ (x ∩ X) ≡ 0
+      none x X n = ap (mass k μ) (all-out (λ i h. let (a, b) = in∩ x X .0 h in n i a b)) ∙ mass-none k μ
 
-      go : Clear A (fit .pick c) → share k S A (cols c) ≡ 0
+      go : Clear A (fit .pick c) → share k μ S A (cols c) ≡ 0
       go (inl s) = omega (arith, none (cols c .zeros) S (λ i z x. fl .zeros x (s .sub x) z))
       go (inr (inl s)) = omega (arith, none (cols c .ones) (S ∖ A) (λ i o x. let (y, n) = in∖ S A .0 x in n (s .sub (in∩ (fit .pick c) S .1 (fl .ones y o, y)))))
       go (inr (inr u)) = omega (arith, none (cols c .ones) A (λ i o x. u .off x (fl .ones (f .division .inside .sub x) o)))
 
   -- So the least cost is 0.
-  free-cost : splitCost k m cols S ≡ 0
+  free-cost : splitCost k μ m cols S ≡ 0
   unfolding divisionCost
   free-cost =
       let (A, f) = find m (omega arith) in
-      let e : divisionCost k m cols S A ≡ 0 = sum-none m (λ c b. ap (λ (n : ℕ). cols c .weight * n) (free-share f c b) ∙ mul-zero (cols c .weight)) in
-      omega (arith, side-best k m cols S fits two .cheapest A (f .division))
+      let e : divisionCost k μ m cols S A ≡ 0 = sum-none m (λ c b. ap (λ (n : ℕ). cols c .weight * n) (free-share f c b) ∙ mul-zero (cols c .weight)) in
+      omega (arith, side-best k μ m cols S fits two .cheapest A (f .division))
 
 -- ---- the build
 
-module _ (k m : ℕ) where
+module _ (k : ℕ) (μ : ℕ → ℕ) (m : ℕ) (pos : Positive μ) where
   module _ {family : ℕ → Type 0} (lam : Laminar family) where
     -- A walk of S costs nothing where the family fits.
     abbrev Free-walk : (ℕ → Column) → ℕ → Walk → Type 0
     Free-walk cols S w = Heavy m cols → Fitted family m S cols → total (w .groups) ≡ 0
 
-    walked-free : {old : ℕ → Column} {S R : ℕ} {Ps : List ℕ} → Parts k m old S R Ps → ((P : ℕ) → List·Memᴰ P Ps → P < 2 ^ k)
-        → ((P : ℕ) → List·Memᴰ P Ps → (c : ℕ → Column) → Free-walk c P (build k m c P))
-        → (cols : ℕ → Column) → Heavy m cols → ((P : ℕ) → List·Memᴰ P Ps → Fitted family m P cols) → total (walked (build k m) cols Ps .groups) ≡ 0
+    walked-free : {old : ℕ → Column} {S R : ℕ} {Ps : List ℕ} → Parts k μ m old S R Ps → ((P : ℕ) → List·Memᴰ P Ps → P < 2 ^ k)
+        → ((P : ℕ) → List·Memᴰ P Ps → (c : ℕ → Column) → Free-walk c P (build k μ m c P))
+        → (cols : ℕ → Column) → Heavy m cols → ((P : ℕ) → List·Memᴰ P Ps → Fitted family m P cols) → total (walked (build k μ m) cols Ps .groups) ≡ 0
     unfolding walked total
     walked-free done small h cols w f = refl
     walked-free (next {P = P} {Ps = Ps} s p ps) small h cols w f =
-        let a = build-tame k m cols P (small P (List·Memᴰ·head refl)) in
+        let a = build-tame k μ m pos cols P (small P (List·Memᴰ·head refl)) in
         let e = h P (List·Memᴰ·head refl) cols w (f P (List·Memᴰ·head refl)) in
-        let mid = build k m cols P .columns in
+        let mid = build k μ m cols P .columns in
         let rest =
         walked-free ps (λ Q l. small Q (List·Memᴰ·tail l)) (λ Q l. h Q (List·Memᴰ·tail l)) mid (heavy-as (a .weights) w)
         (λ Q l. fitted-same (a .calm w e) (f Q (List·Memᴰ·tail l))) in
-        omega (arith, total-++ (build k m cols P .groups) (walked (build k m) mid Ps .groups))
+        omega (arith, total-++ (build k μ m cols P .groups) (walked (build k μ m) mid Ps .groups))
 
     node-free : (cols : ℕ → Column) (S : ℕ) → S < 2 ^ k → 1 < count k S
-        → ((P : ℕ) → List·Memᴰ P (splitParts k m cols S) → (c : ℕ → Column) → Free-walk c P (build k m c P)) → Free-walk cols S (node k m (build k m) cols S)
+        → ((P : ℕ) → List·Memᴰ P (splitParts k μ m cols S) → (c : ℕ → Column) → Free-walk c P (build k μ m c P)) → Free-walk cols S (node k μ m (build k μ m) cols S)
     unfolding node total
     node-free cols S fits two ih w fit =
-        let cheap = free-cost k m lam cols S fits two (choose fit) in
-        let ps = split-parts k m cols S fits two in
+        let cheap = free-cost k μ m lam cols S fits two (choose fit) in
+        let ps = split-parts k μ m cols S fits two in
         let rest =
-        walked-free ps (λ P l. part-in k m cols S fits two l .0) ih (after k m cols S) (heavy-as (after-weight k m cols S fits two) w)
-        (λ P l. fitted-⊆ (inside-R k m (after k m cols S) S ps l) (fitted-same (after-same k m cols S fits two w cheap) fit)) in
+        walked-free ps (λ P l. part-in k μ m cols S fits two l .0) ih (after k μ m cols S) (heavy-as (after-weight k μ m cols S fits two) w)
+        (λ P l. fitted-⊆ (inside-R k μ m (after k μ m cols S) S ps l) (fitted-same (after-same k μ m cols S fits two pos w cheap) fit)) in
         omega arith
 
-    free : (cols : ℕ → Column) (S : ℕ) → S < 2 ^ k → Free-walk cols S (build k m cols S)
+    free : (cols : ℕ → Column) (S : ℕ) → S < 2 ^ k → Free-walk cols S (build k μ m cols S)
     unfolding total
-    free = build-ind k m Free-walk (λ cols S fits few w f. refl) node-free
+    free = build-ind k μ m Free-walk (λ cols S fits few w f. refl) node-free
 
   -- If a rooted tree fits the columns in the group, no split costs anything,
-  pub fits-free : {clade : ℕ → Type 0} → Laminar clade → (cols : ℕ → Column) (S : ℕ) → S < 2 ^ k → Heavy m cols → Fits clade m S cols → total (build k m cols S .groups) ≡ 0
+  pub fits-free : {clade : ℕ → Type 0} → Laminar clade → (cols : ℕ → Column) (S : ℕ) → S < 2 ^ k → Heavy m cols → Fits clade m S cols → total (build k μ m cols S .groups) ≡ 0
   fits-free t cols S fits w f = free (or-empty t) cols S fits w (λ c b. let (F, g, r, h) = f c b in (F, g, h))
 
   -- and if none does, the clades of the build fit the columns, which it leaves as they were.
   pub free-fits : (cols : ℕ → Column) (S : ℕ) → S < 2 ^ k → Heavy m cols → ((c : ℕ) → Proper (cols c))
-      → total (build k m cols S .groups) ≡ 0 → Fits (Clade S (build k m cols S .groups)) m S cols
+      → total (build k μ m cols S .groups) ≡ 0 → Fits (Clade S (build k μ m cols S .groups)) m S cols
   free-fits cols S fits h q e c b =
-      let (F, g, r, x) = filled k m cols S fits q c b in
-      (F, g, r, fills-same (λ i y. same-sym (build-tame k m cols S fits .calm h e c i b)) x)
+      let (F, g, r, x) = filled k μ m pos cols S fits q c b in
+      (F, g, r, fills-same (λ i y. same-sym (build-tame k μ m pos cols S fits .calm h e c i b)) x)

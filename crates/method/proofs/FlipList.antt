@@ -9,9 +9,9 @@ use native.Mathlib.Omega.{arith}
 use lib.Dec.{eqb}
 use borrow.Author.Tests.{eqb-true, eqb-false, eq-eqb, ne-eqb}
 use Rattle.taxa.specs.Sum.{sum}
-use Rattle.taxa.specs.Sets.{_∈_, _∉_, _∩_, _∪_, _∖_, count}
+use Rattle.taxa.specs.Sets.{_∈_, _∉_, _∩_, _∪_, _∖_, mass}
 use Rattle.taxa.proofs.Members.{none as nothing, in∩, in∖, in∪, empty, same-bool, ∩-⊆ʳ}
-use Rattle.taxa.proofs.Counts.{count-none}
+use Rattle.taxa.proofs.Masses.{mass-none}
 use Rattle.method.specs.Split.{Column, Same, raise, lower}
 use Rattle.method.specs.Tree.{Flips, made, flipsOf, flipList, weighedFlips, Line, end, and}
 use Rattle.method.proofs.Flips.{Proper, flips, weighed}
@@ -190,18 +190,18 @@ module _ (old new : ℕ → Column) where
       last = same-trans (entry-at (of m) mid i) (subst (λ (x : Column). Same (flipBy (of m) x) (new m) i) (sym (made-off m m (omega arith))) (flip-made m (q m) (e m) i))
 
   -- The list weighs what the columns' flips do.
-  module _ (k : ℕ) where
-    weighed-++ : (fs gs : List Flips) → weighedFlips k old (fs ++ gs) ≡ weighedFlips k old fs + weighedFlips k old gs
+  module _ (k : ℕ) (μ : ℕ → ℕ) where
+    weighed-++ : (fs gs : List Flips) → weighedFlips k μ old (fs ++ gs) ≡ weighedFlips k μ old fs + weighedFlips k μ old gs
     unfolding weighedFlips
     weighed-++ [] gs = omega arith
     weighed-++ (f ∷ fs) gs = omega (arith, weighed-++ fs gs)
 
-    pub flips-weigh : (m : ℕ) → weighedFlips k old (flipList m old new) ≡ weighed k m old new
+    pub flips-weigh : (m : ℕ) → weighedFlips k μ old (flipList m old new) ≡ weighed k μ m old new
     unfolding flipList weighedFlips weighed flips sum
     flips-weigh zero = refl
     flips-weigh (suc m) = omega (arith, flips-weigh m, weighed-++ (flipList m old new) (entry (of m)), one)
       where
-        one : weighedFlips k old (entry (of m)) ≡ old m .weight * (count k (of m .raised) + count k (of m .lowered))
-        one = by-none (of m) (λ fs. weighedFlips k old fs ≡ old m .weight * (count k (of m .raised) + count k (of m .lowered)))
-            (λ p q. let e : count k (of m .raised) + count k (of m .lowered) ≡ 0 = omega (arith, ap (count k) p, ap (count k) q, count-none k) in sym (ap (λ (n : ℕ). old m .weight * n) e ∙ mul-zero (old m .weight)))
+        one : weighedFlips k μ old (entry (of m)) ≡ old m .weight * (mass k μ (of m .raised) + mass k μ (of m .lowered))
+        one = by-none (of m) (λ fs. weighedFlips k μ old fs ≡ old m .weight * (mass k μ (of m .raised) + mass k μ (of m .lowered)))
+            (λ p q. let e : mass k μ (of m .raised) + mass k μ (of m .lowered) ≡ 0 = omega (arith, ap (mass k μ) p, ap (mass k μ) q, mass-none k μ) in sym (ap (λ (n : ℕ). old m .weight * n) e ∙ mul-zero (old m .weight)))
             (λ s. omega arith)

@@ -1,4 +1,4 @@
--- What one split flips: as many entries as the division costs (`flips-cost`).
+-- What one split flips: its entries weigh what the division costs (`flips-cost`).
 use mathlib.Core.Path.{_≡_, refl, ap}
 use mathlib.Core.Bool.{Bool, true, false, cond}
 use mathlib.Core.Logic.{inr, ⊎-elim}
@@ -7,27 +7,27 @@ use native.Mathlib.Omega.{arith}
 use lib.Dec.{leb}
 use borrow.Author.Tests.{leb-true, leb-false}
 use Rattle.taxa.specs.Sum.{sum}
-use Rattle.taxa.specs.Sets.{_∈_, _∉_, _∩_, _∪_, _∖_, count}
+use Rattle.taxa.specs.Sets.{_∈_, _∉_, _∩_, _∪_, _∖_, mass}
 use Rattle.taxa.proofs.Sums.{sum-≡}
 use Rattle.taxa.proofs.Members.{in∩, in∖, in∪, ext, empty, ∩-⊆}
-use Rattle.taxa.proofs.Counts.{count-none, count-le, count-⊆, count-∪}
+use Rattle.taxa.proofs.Masses.{mass-none, mass-⊆, mass-∪}
 use Rattle.method.specs.Split.{Column, raise, lower, share, flip, flipped, divisionCost}
 
 -- No taxon is both 1 and 0.
 pub record Proper (c : Column) : Type 0 where
   pub clash : {i : ℕ} → i ∈ c .ones → i ∉ c .zeros
 
-module _ (k : ℕ) where
-  -- How many entries two columns differ in: those raised and those lowered.
+module _ (k : ℕ) (μ : ℕ → ℕ) where
+  -- What the entries weigh that two columns differ in: those raised and those lowered.
   unfoldable pub flips : Column → Column → ℕ
-  flips c d = count k (c .zeros ∩ d .ones) + count k (c .ones ∩ d .zeros)
+  flips c d = mass k μ (c .zeros ∩ d .ones) + mass k μ (c .ones ∩ d .zeros)
 
   module _ {c : Column} (p : Proper c) (X : ℕ) where
     open Column c using (ones as o, zeros as z)
 
-    flips-raise : flips c (raise X c) ≡ count k (c .zeros ∩ X)
+    flips-raise : flips c (raise X c) ≡ mass k μ (c .zeros ∩ X)
     unfolding flips raise
-    flips-raise = omega (arith, ap (count k) zeros, ap (count k) ones, count-none k)
+    flips-raise = omega (arith, ap (mass k μ) zeros, ap (mass k μ) ones, mass-none k μ)
       where
         zeros : z ∩ (o ∪ (z ∩ X)) ≡ z ∩ X
         zeros = ext (record { sub = λ h. let (a, b) = in∩ z (o ∪ (z ∩ X)) .0 h in ⊎-elim (λ e. absurd (p .clash e a)) (λ e. e) (in∪ o (z ∩ X) .0 b) })
@@ -36,9 +36,9 @@ module _ (k : ℕ) where
         ones : o ∩ (z ∖ X) ≡ 0
         ones = empty (λ i h. let (a, b) = in∩ o (z ∖ X) .0 h in p .clash a (in∖ z X .0 b .0))
 
-    flips-lower : flips c (lower X c) ≡ count k (c .ones ∩ X)
+    flips-lower : flips c (lower X c) ≡ mass k μ (c .ones ∩ X)
     unfolding flips lower
-    flips-lower = omega (arith, ap (count k) zeros, ap (count k) ones, count-none k)
+    flips-lower = omega (arith, ap (mass k μ) zeros, ap (mass k μ) ones, mass-none k μ)
       where
         ones : o ∩ (z ∪ (o ∩ X)) ≡ o ∩ X
         ones = ext (record { sub = λ h. let (a, b) = in∩ o (z ∪ (o ∩ X)) .0 h in ⊎-elim (λ e. absurd (p .clash a e)) (λ e. e) (in∪ z (o ∩ X) .0 b) })
@@ -47,47 +47,46 @@ module _ (k : ℕ) where
         zeros : z ∩ (o ∖ X) ≡ 0
         zeros = empty (λ i h. let (a, b) = in∩ z (o ∖ X) .0 h in p .clash (in∖ o X .0 b .0) a)
 
-  -- No column has more flips than taxa.
-  pub flips-bound : {c : Column} → Proper c → (d : Column) → flips c d ≤ k
+  -- No column has more flips than the taxa that it knows stand for.
+  pub flips-bound : {c : Column} → Proper c → (d : Column) → flips c d ≤ mass k μ (c .ones ∪ c .zeros)
   unfolding flips
   flips-bound {c} p d =
       omega (
         arith,
-        count-⊆ k (∩-⊆ (c .zeros) (d .ones)),
-        count-⊆ k (∩-⊆ (c .ones) (d .zeros)),
-        count-∪ k {x = c .ones} {y = c .zeros} (record { off = p .clash }),
-        count-le k (c .ones ∪ c .zeros),
+        mass-⊆ k μ (∩-⊆ (c .zeros) (d .ones)),
+        mass-⊆ k μ (∩-⊆ (c .ones) (d .zeros)),
+        mass-∪ k μ {x = c .ones} {y = c .zeros} (record { off = p .clash }),
       )
 
   -- The three ways to flip a column.
   pub data Flip (S A : ℕ) (c : Column) : Column → Type 0 where
-    up : count k (c .zeros ∩ S) ≤ count k (c .ones ∩ A) → count k (c .zeros ∩ S) ≤ count k (c .ones ∩ (S ∖ A)) → Flip S A c (raise S c)
-    left : count k (c .ones ∩ A) ≤ count k (c .ones ∩ (S ∖ A)) → count k (c .ones ∩ A) < count k (c .zeros ∩ S) → Flip S A c (lower A c)
-    right : count k (c .ones ∩ (S ∖ A)) < count k (c .ones ∩ A) → count k (c .ones ∩ (S ∖ A)) < count k (c .zeros ∩ S) → Flip S A c (lower (S ∖ A) c)
+    up : mass k μ (c .zeros ∩ S) ≤ mass k μ (c .ones ∩ A) → mass k μ (c .zeros ∩ S) ≤ mass k μ (c .ones ∩ (S ∖ A)) → Flip S A c (raise S c)
+    left : mass k μ (c .ones ∩ A) ≤ mass k μ (c .ones ∩ (S ∖ A)) → mass k μ (c .ones ∩ A) < mass k μ (c .zeros ∩ S) → Flip S A c (lower A c)
+    right : mass k μ (c .ones ∩ (S ∖ A)) < mass k μ (c .ones ∩ A) → mass k μ (c .ones ∩ (S ∖ A)) < mass k μ (c .zeros ∩ S) → Flip S A c (lower (S ∖ A) c)
 
-  pub flip-is : (S A : ℕ) (c : Column) → Flip S A c (flip k S A c)
+  pub flip-is : (S A : ℕ) (c : Column) → Flip S A c (flip k μ S A c)
   unfolding flip
   flip-is S A c = go (leb z (min a b)) (leb a b) refl refl
     where
       a : ℕ
-      a = count k (c .ones ∩ A)
+      a = mass k μ (c .ones ∩ A)
 
       b : ℕ
-      b = count k (c .ones ∩ (S ∖ A))
+      b = mass k μ (c .ones ∩ (S ∖ A))
 
       z : ℕ
-      z = count k (c .zeros ∩ S)
+      z = mass k μ (c .zeros ∩ S)
 
       go : (p q : Bool) → leb z (min a b) ≡ p → leb a b ≡ q → Flip S A c (cond p (raise S c) (cond q (lower A c) (lower (S ∖ A) c)))
       go true q e f = let l = leb-true z (min a b) e in up (omega arith) (omega arith)
       go false true e f = let l = leb-false z (min a b) e in let m = leb-true a b f in left (omega arith) (omega arith)
       go false false e f = let l = leb-false z (min a b) e in let m = leb-false a b f in right (omega arith) (omega arith)
 
-  pub flips-share : (S A : ℕ) {c : Column} → Proper c → flips c (flip k S A c) ≡ share k S A c
+  pub flips-share : (S A : ℕ) {c : Column} → Proper c → flips c (flip k μ S A c) ≡ share k μ S A c
   unfolding share
   flips-share S A {c} p = go (flip-is S A c)
     where
-      go : {d : Column} → Flip S A c d → flips c d ≡ share k S A c
+      go : {d : Column} → Flip S A c d → flips c d ≡ share k μ S A c
       go (up h l) = omega (arith, flips-raise p S)
       go (left h l) = omega (arith, flips-lower p A)
       go (right h l) = omega (arith, flips-lower p (S ∖ A))
@@ -97,6 +96,6 @@ module _ (k : ℕ) where
   weighed m cols after = sum m (λ c. cols c .weight * flips (cols c) (after c))
 
   -- What a split flips is what the division costs.
-  pub flips-cost : (m : ℕ) (cols : ℕ → Column) (S A : ℕ) → ((c : ℕ) → Proper (cols c)) → weighed m cols (flipped k m cols S A) ≡ divisionCost k m cols S A
+  pub flips-cost : (m : ℕ) (cols : ℕ → Column) (S A : ℕ) → ((c : ℕ) → Proper (cols c)) → weighed m cols (flipped k μ m cols S A) ≡ divisionCost k μ m cols S A
   unfolding weighed flipped divisionCost
   flips-cost m cols S A p = sum-≡ m (λ c l. ap (λ (n : ℕ). cols c .weight * n) (flips-share S A (p c)))

@@ -33,3 +33,4 @@ pub mod Filling
 pub mod Fitting
 pub mod FlipList
 pub mod Promises
+pub mod Counted

@@ -5,21 +5,22 @@ use Prim.Native.Nat.{ℕ, zero, suc, _+_, _^_, _<_}
 use native.Mathlib.Decide.{decLt}
 use native.Mathlib.Omega.{arith}
 use Rattle.taxa.specs.Sum.{sum}
-use Rattle.taxa.specs.Sets.{_∈_, _∉_, _⊆_, _∩_, _∪_, _∖_, count}
+use Rattle.taxa.specs.Sets.{_∈_, _∉_, _⊆_, _∩_, _∪_, _∖_, Positive, count}
 use Rattle.taxa.proofs.Sums.{sum-0, sum-some, term-≤}
 use Rattle.taxa.proofs.Members.{in∩, in∖, in-insert, ext, ∪-⊆, pow-⊆, pow-in, in-pow, below}
-use Rattle.taxa.proofs.Counts.{count-<, count-⊆, count-some}
+use Rattle.taxa.proofs.Masses.{mass-some}
+use Rattle.taxa.proofs.Counts.{count-<, count-⊆}
 use Rattle.method.specs.Split.{Column, share, Linked, start, step}
 use Rattle.method.proofs.Parts.{Apart, Part, ones-together}
 
-module _ (k m : ℕ) (cols : ℕ → Column) (S : ℕ) where
+module _ (k : ℕ) (μ : ℕ → ℕ) (m : ℕ) (cols : ℕ → Column) (S : ℕ) where
   abbrev Led : ℕ → ℕ → Type 0
   Led = Linked k m cols S
 
-  module _ (fits : S < 2 ^ k) {i P : ℕ} (p : Part k m cols S i P) where
+  module _ (pos : Positive μ) (fits : S < 2 ^ k) {i P : ℕ} (p : Part k μ m cols S i P) where
     pub linked-in : {j : ℕ} → Led i j → j ∈ P
     linked-in start = p .member
-    linked-in (step c l g) = ones-together k m cols S fits c (g .column) (p .inside) (p .shut) (g .zero-in) (g .is-zero) (linked-in l) (g .from) (g .to-in) (g .to)
+    linked-in (step c l g) = ones-together k μ m cols S fits pos c (g .column) (p .inside) (p .shut) (g .zero-in) (g .is-zero) (linked-in l) (g .from) (g .to-in) (g .to)
 
     -- A set of linked taxa has all of the part, or some column leads out of it.
     abbrev All-linked : ℕ → Type 0
@@ -30,13 +31,13 @@ module _ (k m : ℕ) (cols : ℕ → Column) (S : ℕ) where
     widen Q s h l = go (decLt 0 (sum m took))
       where
         took : ℕ → ℕ
-        took c = share k S Q (cols c)
+        took c = share k μ S Q (cols c)
 
         lead : (c : ℕ) × (c < m) × (0 < took c) → (b : ℕ) × b ∈ S × b ∉ Q × Led i b
         lead (c, bc, q) =
-            let (a, ba, x) = count-some k (cols c .ones ∩ Q) (omega arith) in
-            let (b, bb, y) = count-some k (cols c .ones ∩ (S ∖ Q)) (omega arith) in
-            let (z, bz, w) = count-some k (cols c .zeros ∩ S) (omega arith) in
+            let (a, ba, x) = mass-some k μ (cols c .ones ∩ Q) (omega arith) in
+            let (b, bb, y) = mass-some k μ (cols c .ones ∩ (S ∖ Q)) (omega arith) in
+            let (z, bz, w) = mass-some k μ (cols c .zeros ∩ S) (omega arith) in
             let (ao, aQ) = in∩ (cols c .ones) Q .0 x in
             let (bo, bR) = in∩ (cols c .ones) (S ∖ Q) .0 y in
             let (bS, bQ) = in∖ S Q .0 bR in
@@ -66,5 +67,5 @@ module _ (k m : ℕ) (cols : ℕ → Column) (S : ℕ) where
         reach (suc (count k S)) (2 ^ i) (pow-⊆ (p .inside .sub (p .member))) (in-pow i) (λ j x. subst (λ (a : ℕ). Led i a) (sym (pow-in i x)) start) (omega arith) j h
 
     -- So a set of linked taxa that is apart from the rest is the part: what a search that follows the columns ends with.
-    pub linked-part : {Q : ℕ} → Q ⊆ S → i ∈ Q → Apart k m cols S Q → ((j : ℕ) → j ∈ Q → Led i j) → Q ≡ P
+    pub linked-part : {Q : ℕ} → Q ⊆ S → i ∈ Q → Apart k μ m cols S Q → ((j : ℕ) → j ∈ Q → Led i j) → Q ≡ P
     linked-part s h a l = ext (record { sub = λ {i = j} x. linked-in (l j x) }) (p .smallest s h a)

@@ -23,14 +23,14 @@ lex b x y r s l l′ h = (high, λ e. omega (arith, ap (λ (n : ℕ). n * b) e))
     high : x ≤ y
     high = elim (decLt y x) [ yes g ↦ absurd (omega (arith, mul-le-mul-right b g, suc-mul y b)) | no g ↦ omega arith ]
 
-module _ (k m : ℕ) (cols : ℕ → Column) (S : ℕ) where
+module _ (k : ℕ) (μ : ℕ → ℕ) (m : ℕ) (cols : ℕ → Column) (S : ℕ) where
   abbrev cost : ℕ → ℕ
-  cost = divisionCost k m cols S
+  cost = divisionCost k μ m cols S
 
   abbrev other : ℕ → ℕ
   other = parted k S
 
-  by-key : (A D : ℕ) → key k m cols S A ≤ key k m cols S D
+  by-key : (A D : ℕ) → key k μ m cols S A ≤ key k μ m cols S D
       → (cost A ≤ cost D) × (cost A ≡ cost D → other A ≤ other D) × (cost A ≡ cost D → other A ≡ other D → count k A ≤ count k D)
   unfolding key
   by-key A D h =
@@ -47,13 +47,13 @@ module _ (k m : ℕ) (cols : ℕ → Column) (S : ℕ) where
       omega (arith, sum-+ m (at (A ∩ D)) (at (A ∪ D)), sum-+ m (at A) (at D), sum-≤ m (λ c l. each c))
     where
       at : ℕ → ℕ → ℕ
-      at X c = cols c .weight * share k S X (cols c)
+      at X c = cols c .weight * share k μ S X (cols c)
 
       each : (c : ℕ) → at (A ∩ D) c + at (A ∪ D) c ≤ at A c + at D c
       each c =
           let w = cols c .weight in
-          let n : ℕ → ℕ = λ X. share k S X (cols c) in
-          omega (arith, mul-add w (n (A ∩ D)) (n (A ∪ D)), mul-add w (n A) (n D), mul-le-mul-left w (submodular k S (cols c) A D a d))
+          let n : ℕ → ℕ = λ X. share k μ S X (cols c) in
+          omega (arith, mul-add w (n (A ∩ D)) (n (A ∪ D)), mul-add w (n A) (n D), mul-le-mul-left w (submodular k μ S (cols c) A D a d))
 
   -- What document 01 asks of the side A.
   pub record Best (A : ℕ) : Type 0 where
@@ -83,15 +83,15 @@ module _ (k m : ℕ) (cols : ℕ → Column) (S : ℕ) where
     off : {D : ℕ} → Division k S D → other D ∈ S ∖ D
     off d = parted-in k fits d
 
-    pub side-best : Best (side k m cols S)
+    pub side-best : Best (side k μ m cols S)
     unfolding side
     side-best = record { is-division = is; cheapest = λ D d. key-le D d .0; nearest = λ D d. key-le D d .1; smallest = smallest }
       where
         A : ℕ
-        A = side k m cols S
+        A = side k μ m cols S
 
-        found : Least (division k S) (key k m cols S) (2 ^ low k S) S A
-        found = least-is (division k S) (key k m cols S) (2 ^ low k S) S
+        found : Least (division k S) (key k μ m cols S) (2 ^ low k S) S A
+        found = least-is (division k S) (key k μ m cols S) (2 ^ low k S) S
 
         is : Division k S A
         is = division-is k S A .0 (found .passes (division-is k S (2 ^ low k S) .1 alone))
@@ -126,37 +126,37 @@ module _ (k m : ℕ) (cols : ℕ → Column) (S : ℕ) where
             all i h (no n) = absurd (omega (arith, key-le (A ∩ D) meet .2 same near, count-< k (∩-⊆ A D) (below k fits (is .inside .sub h)) h n))
 
     -- No division into two non-empty sides costs less, whichever side is named.
-    pub side-cheapest : (D : ℕ) → D ⊆ S → D ≢ 0 → D ≢ S → cost (side k m cols S) ≤ cost D
+    pub side-cheapest : (D : ℕ) → D ⊆ S → D ≢ 0 → D ≢ S → cost (side k μ m cols S) ≤ cost D
     unfolding divisionCost
     side-cheapest D d some proper = go (in? (low k S) D)
       where
         rest-proper : S ∖ D ≢ S
         rest-proper e = some (empty (λ i h. in∖ S D .0 (subst (λ (X : ℕ). i ∈ X) (sym e) (d .sub h)) .1 h))
 
-        go : Dec (low k S ∈ D) → cost (side k m cols S) ≤ cost D
+        go : Dec (low k S ∈ D) → cost (side k μ m cols S) ≤ cost D
         go (yes h) = side-best .cheapest D (record { inside = d; lowest = h; proper = proper })
         go (no h) =
             let x = side-best .cheapest (S ∖ D) (record { inside = ∖-⊆ S D; lowest = in∖ S D .1 (some-low, h); proper = rest-proper }) in
-            omega (arith, sum-≡ m (λ c b. ap (λ (n : ℕ). cols c .weight * n) (share-rest k S (cols c) D d)))
+            omega (arith, sum-≡ m (λ c b. ap (λ (n : ℕ). cols c .weight * n) (share-rest k μ S (cols c) D d)))
 
     -- It is the only division of its key.
-    pub key-only : (D : ℕ) → Division k S D → key k m cols S D ≡ key k m cols S (side k m cols S) → D ≡ side k m cols S
+    pub key-only : (D : ℕ) → Division k S D → key k μ m cols S D ≡ key k μ m cols S (side k μ m cols S) → D ≡ side k μ m cols S
     key-only D d e =
-        let (p, q, r) = by-key (side k m cols S) D (omega arith) in
-        let (p′, q′, r′) = by-key D (side k m cols S) (omega arith) in
-        let c : cost (side k m cols S) ≡ cost D = omega arith in
-        let t : other (side k m cols S) ≡ other D = omega (arith, q c, q′ (sym c)) in
+        let (p, q, r) = by-key (side k μ m cols S) D (omega arith) in
+        let (p′, q′, r′) = by-key D (side k μ m cols S) (omega arith) in
+        let c : cost (side k μ m cols S) ≡ cost D = omega arith in
+        let t : other (side k μ m cols S) ≡ other D = omega (arith, q c, q′ (sym c)) in
         sym (count-tight k (omega (arith, ⊆-≤ (d .inside))) (side-best .smallest D d c t) (omega (arith, r c t, r′ (sym c) (sym t))))
 
     up-to : (D : ℕ) {i : ℕ} → i ∈ S ∖ D → other D ≤ i
     up-to D h = low-≤ k (omega (arith, ⊆-≤ (∖-⊆ S D))) h
 
     -- It lies in every division that costs as little and parts the same taxon.
-    pub side-inner : (D : ℕ) → Division k S D → cost D ≡ cost (side k m cols S) → other (side k m cols S) ∈ S ∖ D → side k m cols S ⊆ D
+    pub side-inner : (D : ℕ) → Division k S D → cost D ≡ cost (side k μ m cols S) → other (side k μ m cols S) ∈ S ∖ D → side k μ m cols S ⊆ D
     side-inner D d e h = side-best .smallest D d (sym e) (omega (arith, side-best .nearest D d (sym e), up-to D h))
 
     -- It obeys document 01's rule,
-    pub side-rule : Rule k m cols S (side k m cols S) (other (side k m cols S))
+    pub side-rule : Rule k μ m cols S (side k μ m cols S) (other (side k μ m cols S))
     side-rule = record {
       is-division = side-best .is-division;
       cheapest = side-best .cheapest;
@@ -169,7 +169,7 @@ module _ (k m : ℕ) (cols : ℕ → Column) (S : ℕ) where
     }
 
     -- which names one side and one taxon.
-    pub rule-only : {A B t u : ℕ} → Rule k m cols S A t → Rule k m cols S B u → (A ≡ B) × (t ≡ u)
+    pub rule-only : {A B t u : ℕ} → Rule k μ m cols S A t → Rule k μ m cols S B u → (A ≡ B) × (t ≡ u)
     rule-only {A} {B} {t} {u} a b = (sym (a .only B (b .is-division) e (subst (λ (i : ℕ). i ∈ S ∖ B) (sym same) (b .is-parted)) few), same)
       where
         e : cost B ≡ cost A
@@ -192,7 +192,7 @@ module _ (k m : ℕ) (cols : ℕ → Column) (S : ℕ) where
       pub first : (D i : ℕ) → Division k S D → i ∈ S ∖ D → i < t → size t < size i
       pub inner : (D : ℕ) → Division k S D → t ∈ S ∖ D → cost D ≡ cost A → A ⊆ D
 
-    pub search-side : {size : ℕ → ℕ} {t A : ℕ} → Search size t A → (A ≡ side k m cols S) × (t ≡ other A)
+    pub search-side : {size : ℕ → ℕ} {t A : ℕ} → Search size t A → (A ≡ side k μ m cols S) × (t ≡ other A)
     search-side {size} {t} {A} r = (best-only best side-best, at)
       where
         near : (D : ℕ) → Division k S D → cost A ≡ cost D → t ≤ other D

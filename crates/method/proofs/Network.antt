@@ -11,11 +11,11 @@ use lib.Arith.{le-zero}
 use lib.Dec.{ltb}
 use borrow.Author.Tests.{ltb-false}
 use Rattle.taxa.specs.Sum.{sum, inside, outside}
-use Rattle.taxa.specs.Sets.{has, _∈_, _∉_, _⊆_, _∩_, _∖_, mass, unit, count, low}
+use Rattle.taxa.specs.Sets.{has, _∈_, _∉_, _⊆_, _∩_, _∖_, mass, count, low}
 use Rattle.taxa.proofs.Sums.{sum-≡}
 use Rattle.taxa.proofs.Members.{none, out as outside-of, in∖, below, low-in, ∩-part, ∩-over-∖, ∩-⊆ʳ}
-use Rattle.taxa.proofs.Masses.{mass-inside, mass-outside, mass-times, mass-≡}
-use Rattle.taxa.proofs.Counts.{count-pos}
+use Rattle.taxa.proofs.Masses.{mass-times, mass-inside, mass-outside}
+use Rattle.taxa.proofs.Counts.{count-pos, weightless}
 use Rattle.method.specs.Split.{Column, share, Division, parted, divisionCost, side}
 use Rattle.method.specs.Flow.{joined, cap, through, cut, cutCost, Flow, Reach, start, step, arcs, limits}
 use Rattle.method.proofs.Cuts.{MinCut, weak, min-cut}
@@ -28,45 +28,40 @@ times-min w a b = go (decLt a b)
     go (yes l) = let e : min a b ≡ a = omega arith in let h : w * a ≤ w * b = mul-le-mul-left w (omega arith) in omega (arith, ap (λ (n : ℕ). w * n) e)
     go (no l) = let e : min a b ≡ b = omega arith in let h : w * b ≤ w * a = mul-le-mul-left w (omega arith) in omega (arith, ap (λ (n : ℕ). w * n) e)
 
-module _ (k S : ℕ) (c : Column) (A : ℕ) (s : A ⊆ S) where
+module _ (k : ℕ) (μ : ℕ → ℕ) (S : ℕ) (c : Column) (A : ℕ) (s : A ⊆ S) where
   open Column c using (weight as w)
 
-  -- w for each taxon.
-  times : (x : ℕ) → mass k (λ i. w) x ≡ w * count k x
-  unfolding count
-  times x = mass-≡ k (λ i b. omega arith) x ∙ mass-times k unit w x
-
   -- What A can send into the column, and what the others can.
-  inside-is : sum k (inside (has A) (cap k S c)) ≡ w * count k (joined k S c ∩ A)
+  inside-is : sum k (inside (has A) (cap k μ S c)) ≡ w * mass k μ (joined k S c ∩ A)
   unfolding cap
-  inside-is = mass-inside k (λ i. w) (joined k S c) A ∙ times (joined k S c ∩ A)
+  inside-is = mass-inside k (λ i. w * μ i) (joined k S c) A ∙ mass-times k μ w (joined k S c ∩ A)
 
-  outside-is : sum k (outside (has A) (cap k S c)) ≡ w * count k (joined k S c ∖ A)
+  outside-is : sum k (outside (has A) (cap k μ S c)) ≡ w * mass k μ (joined k S c ∖ A)
   unfolding cap
-  outside-is = mass-outside k (λ i. w) (joined k S c) A ∙ times (joined k S c ∖ A)
+  outside-is = mass-outside k (λ i. w * μ i) (joined k S c) A ∙ mass-times k μ w (joined k S c ∖ A)
 
-  cut-is : cut k (cap k S c) (through k S c) (has A) ≡ w * share k S A c
+  cut-is : cut k (cap k μ S c) (through k μ S c) (has A) ≡ w * share k μ S A c
   unfolding share through joined
-  cut-is = go (ltb 0 z) refl
+  cut-is = go (ltb 0 (count k (c .zeros ∩ S))) refl
     where
       z : ℕ
-      z = count k (c .zeros ∩ S)
+      z = mass k μ (c .zeros ∩ S)
 
       a : ℕ
-      a = count k (c .ones ∩ A)
+      a = mass k μ (c .ones ∩ A)
 
       b : ℕ
-      b = count k (c .ones ∩ (S ∖ A))
+      b = mass k μ (c .ones ∩ (S ∖ A))
 
-      go : (t : Bool) → ltb 0 z ≡ t → cut k (cap k S c) (through k S c) (has A) ≡ w * share k S A c
+      go : (t : Bool) → ltb 0 (count k (c .zeros ∩ S)) ≡ t → cut k (cap k μ S c) (through k μ S c) (has A) ≡ w * share k μ S A c
       go true e =
           let j : joined k S c ≡ c .ones ∩ S = ap (λ (t : Bool). cond t (c .ones ∩ S) 0) e in
-          let x = inside-is ∙ ap (λ (n : ℕ). w * count k n) (ap (λ (y : ℕ). y ∩ A) j ∙ ∩-part (c .ones) s) in
-          let y = outside-is ∙ ap (λ (n : ℕ). w * count k n) (ap (λ (y : ℕ). y ∖ A) j ∙ sym (∩-over-∖ (c .ones) S A)) in
+          let x = inside-is ∙ ap (λ (n : ℕ). w * mass k μ n) (ap (λ (y : ℕ). y ∩ A) j ∙ ∩-part (c .ones) s) in
+          let y = outside-is ∙ ap (λ (n : ℕ). w * mass k μ n) (ap (λ (y : ℕ). y ∖ A) j ∙ sym (∩-over-∖ (c .ones) S A)) in
           ap₂ (λ (m n : ℕ). min m (min n (w * z))) x y ∙ omega (arith, times-min w (min a b) z, times-min w a b)
       go false e =
-          let none : z ≡ 0 = le-zero (ltb-false 0 z e) in
-          let free : share k S A c ≡ 0 = omega arith in
+          let none : z ≡ 0 = weightless k μ (c .zeros ∩ S) (le-zero (ltb-false 0 (count k (c .zeros ∩ S)) e)) in
+          let free : share k μ S A c ≡ 0 = omega arith in
           omega (arith, ap (λ (n : ℕ). w * n) none, ap (λ (n : ℕ). w * n) free, mul-zero w)
 
 -- A taxon that carries something has a 1 there, and is one of S.
@@ -78,25 +73,25 @@ joined-⊆ k S c = record { sub = λ {i} h. go i (ltb 0 (count k (c .zeros ∩ S
     go i true h = h
     go i false h = absurd (none h)
 
-pub cap-in : (k S : ℕ) (c : Column) {i : ℕ} → 0 < cap k S c i → i ∈ joined k S c
+pub cap-in : (k : ℕ) (μ : ℕ → ℕ) (S : ℕ) (c : Column) {i : ℕ} → 0 < cap k μ S c i → i ∈ joined k S c
 unfolding cap
-cap-in k S c {i} p = record { is = go (has (joined k S c) i) p }
+cap-in k μ S c {i} p = record { is = go (has (joined k S c) i) p }
   where
-    go : (t : Bool) → 0 < cond t (c .weight) 0 → t ≡ true
+    go : (t : Bool) → 0 < cond t (c .weight * μ i) 0 → t ≡ true
     go true p = refl
     go false p = absurd (omega arith)
 
-module _ (k m : ℕ) (cols : ℕ → Column) (S : ℕ) where
+module _ (k : ℕ) (μ : ℕ → ℕ) (m : ℕ) (cols : ℕ → Column) (S : ℕ) where
   abbrev caps : ℕ → ℕ → ℕ
-  caps = arcs k m cols S
+  caps = arcs k μ m cols S
 
   abbrev thrs : ℕ → ℕ
-  thrs = limits k m cols S
+  thrs = limits k μ m cols S
 
   -- What a set costs in the network is what the division costs.
-  pub network-cost : (A : ℕ) → A ⊆ S → cutCost k m caps thrs (has A) ≡ divisionCost k m cols S A
+  pub network-cost : (A : ℕ) → A ⊆ S → cutCost k m caps thrs (has A) ≡ divisionCost k μ m cols S A
   unfolding divisionCost
-  network-cost A s = sum-≡ m (λ c l. cut-is k S (cols c) A s)
+  network-cost A s = sum-≡ m (λ c l. cut-is k μ S (cols c) A s)
 
   -- What a search supplies: a flow of `size i` from the lowest taxon to each other taxon i of S; the least size, first met at t; and the least
   -- set of least cost that parts t.
@@ -130,10 +125,10 @@ module _ (k m : ℕ) (cols : ℕ → Column) (S : ℕ) where
     -- Hops lead from S only into S.
     pub reach-in : {out inn : ℕ → ℕ → ℕ} {i : ℕ} → Reach k m caps thrs out inn (low k S) i → i ∈ S
     reach-in start = low-S
-    reach-in (step c q bc bj h) = ∩-⊆ʳ (cols c .ones) S .sub (joined-⊆ k S (cols c) .sub (cap-in k S (cols c) (omega (arith, h .down))))
+    reach-in (step c q bc bj h) = ∩-⊆ʳ (cols c .ones) S .sub (joined-⊆ k S (cols c) .sub (cap-in k μ S (cols c) (omega (arith, h .down))))
 
-    pub flows-side : {size : ℕ → ℕ} {t A : ℕ} → Flows size t A → (A ≡ side k m cols S) × (t ≡ parted k S A)
-    flows-side {size} {t} {A} r = search-side k m cols S fits two (record {
+    pub flows-side : {size : ℕ → ℕ} {t A : ℕ} → Flows size t A → (A ≡ side k μ m cols S) × (t ≡ parted k S A)
+    flows-side {size} {t} {A} r = search-side k μ m cols S fits two (record {
       is-division = r .is-division;
       is-parted = r .is-parted;
       found = sym (r .full ∙ network-cost A (r .is-division .inside));
@@ -157,7 +152,7 @@ module _ (k m : ℕ) (cols : ℕ → Column) (S : ℕ) where
         low-below : low k S < k
         low-below = below k fits (r .is-division .inside .sub (r .is-division .lowest))
 
-    pub reached-side : {size : ℕ → ℕ} {t A : ℕ} → Reached size t A → (A ≡ side k m cols S) × (t ≡ parted k S A)
+    pub reached-side : {size : ℕ → ℕ} {t A : ℕ} → Reached size t A → (A ≡ side k μ m cols S) × (t ≡ parted k S A)
     reached-side {size} {t} {A} r = flows-side (record {
       is-division = division;
       is-parted = in∖ S A .1 (r .target, r .missed);

@@ -23,56 +23,56 @@ use Rattle.method.proofs.Shape.{line-++, line-map, Ahead, holds, apart,
 
 -- ---- how many
 
-module _ (k m : ℕ) where
-  few-parts : {old : ℕ → Column} {S R : ℕ} {Ps : List ℕ} → Parts k m old S R Ps → length Ps ≡ 0 → count k R ≡ 0
+module _ (k : ℕ) (μ : ℕ → ℕ) (m : ℕ) where
+  few-parts : {old : ℕ → Column} {S R : ℕ} {Ps : List ℕ} → Parts k μ m old S R Ps → length Ps ≡ 0 → count k R ≡ 0
   few-parts done e = count-none k
   few-parts (next s p ps) e = absurd (omega arith)
 
   -- There are two parts or more, where each is smaller than the whole.
-  two-parts : {old : ℕ → Column} {S R : ℕ} {Ps : List ℕ} → Parts k m old S R Ps → 0 < count k R → ((P : ℕ) → List·Memᴰ P Ps → count k P < count k R) → 2 ≤ length Ps
+  two-parts : {old : ℕ → Column} {S R : ℕ} {Ps : List ℕ} → Parts k μ m old S R Ps → 0 < count k R → ((P : ℕ) → List·Memᴰ P Ps → count k P < count k R) → 2 ≤ length Ps
   two-parts done p h = absurd (omega (arith, count-none k))
   two-parts {old} {S} (next {R} {P} {Ps} s q ps) p h = go Ps ps
     where
-      go : (Qs : List ℕ) → Parts k m old S (R ∖ P) Qs → 2 ≤ suc (length Qs)
+      go : (Qs : List ℕ) → Parts k μ m old S (R ∖ P) Qs → 2 ≤ suc (length Qs)
       go [] t = absurd (omega (arith, few-parts t refl, count-∖ k s, h P (List·Memᴰ·head refl)))
       go (Q ∷ Qs) t = omega arith
 
-  pub split-two : (cols : ℕ → Column) (S : ℕ) → S < 2 ^ k → 1 < count k S → 2 ≤ length (splitParts k m cols S)
-  split-two cols S fits two = two-parts (split-parts k m cols S fits two) (omega arith) (λ P l. part-in k m cols S fits two l .2)
+  pub split-two : (cols : ℕ → Column) (S : ℕ) → S < 2 ^ k → 1 < count k S → 2 ≤ length (splitParts k μ m cols S)
+  split-two cols S fits two = two-parts (split-parts k μ m cols S fits two) (omega arith) (λ P l. part-in k μ m cols S fits two l .2)
 
-  parts-length : {old : ℕ → Column} {S R : ℕ} {Ps : List ℕ} → Parts k m old S R Ps → ((P : ℕ) → List·Memᴰ P Ps → 0 < count k P) → length Ps ≤ count k R
+  parts-length : {old : ℕ → Column} {S R : ℕ} {Ps : List ℕ} → Parts k μ m old S R Ps → ((P : ℕ) → List·Memᴰ P Ps → 0 < count k P) → length Ps ≤ count k R
   parts-length done h = omega arith
   parts-length (next {P = P} s p ps) h = omega (arith, h P (List·Memᴰ·head refl), parts-length ps (λ Q l. h Q (List·Memᴰ·tail l)), count-∖ k s)
 
-  beside : {old : ℕ → Column} {S R P : ℕ} {Ps : List ℕ} → Parts k m old S R Ps → ((Q : ℕ) → List·Memᴰ Q Ps → 0 < count k Q) → List·Memᴰ P Ps
+  beside : {old : ℕ → Column} {S R P : ℕ} {Ps : List ℕ} → Parts k μ m old S R Ps → ((Q : ℕ) → List·Memᴰ Q Ps → 0 < count k Q) → List·Memᴰ P Ps
       → count k P + length Ps ≤ count k R + 1
   beside (next s p ps) h (List·Memᴰ·head e) = rw e (omega (arith, parts-length ps (λ Q l. h Q (List·Memᴰ·tail l)), count-∖ k s))
   beside (next {P = P} s p ps) h (List·Memᴰ·tail l) = omega (arith, beside ps (λ Q l. h Q (List·Memᴰ·tail l)) l, h P (List·Memᴰ·head refl), count-∖ k s)
 
   -- Each part beside a part has a taxon of its own.
-  pub split-beside : (cols : ℕ → Column) (S : ℕ) → S < 2 ^ k → 1 < count k S → {P : ℕ} → List·Memᴰ P (splitParts k m cols S)
-      → count k P + length (splitParts k m cols S) ≤ count k S + 1
-  split-beside cols S fits two = beside (split-parts k m cols S fits two) (λ Q l. part-in k m cols S fits two l .1)
+  pub split-beside : (cols : ℕ → Column) (S : ℕ) → S < 2 ^ k → 1 < count k S → {P : ℕ} → List·Memᴰ P (splitParts k μ m cols S)
+      → count k P + length (splitParts k μ m cols S) ≤ count k S + 1
+  split-beside cols S fits two = beside (split-parts k μ m cols S fits two) (λ Q l. part-in k μ m cols S fits two l .1)
 
-  walked-length : {old : ℕ → Column} {S R : ℕ} {Ps : List ℕ} → Parts k m old S R Ps
-      → ((P : ℕ) → List·Memᴰ P Ps → (cols : ℕ → Column) → length (build k m cols P .groups) < count k P) → (cols : ℕ → Column)
-      → length (walked (build k m) cols Ps .groups) + length Ps ≤ count k R
+  walked-length : {old : ℕ → Column} {S R : ℕ} {Ps : List ℕ} → Parts k μ m old S R Ps
+      → ((P : ℕ) → List·Memᴰ P Ps → (cols : ℕ → Column) → length (build k μ m cols P .groups) < count k P) → (cols : ℕ → Column)
+      → length (walked (build k μ m) cols Ps .groups) + length Ps ≤ count k R
   unfolding walked
   walked-length done h cols = omega arith
   walked-length (next {R} {P} {Ps} s p ps) h cols =
       omega (
         arith,
-        length-append (build k m cols P .groups) (walked (build k m) (build k m cols P .columns) Ps .groups),
+        length-append (build k μ m cols P .groups) (walked (build k μ m) (build k μ m cols P .columns) Ps .groups),
         h P (List·Memᴰ·head refl) cols,
-        walked-length ps (λ Q l. h Q (List·Memᴰ·tail l)) (build k m cols P .columns),
+        walked-length ps (λ Q l. h Q (List·Memᴰ·tail l)) (build k μ m cols P .columns),
         count-∖ k s,
       )
 
   -- A group of taxa has fewer groups than taxa.
-  pub build-length : (cols : ℕ → Column) (S : ℕ) → S < 2 ^ k → 0 < count k S → length (build k m cols S .groups) < count k S
+  pub build-length : (cols : ℕ → Column) (S : ℕ) → S < 2 ^ k → 0 < count k S → length (build k μ m cols S .groups) < count k S
   unfolding node
-  build-length = build-ind k m (λ cols S w. 0 < count k S → length (w .groups) < count k S) (λ cols S fits few p. p) (λ cols S fits two ih p.
-      let small = walked-length (split-parts k m cols S fits two) (λ P l c. ih P l c (part-in k m cols S fits two l .1)) (after k m cols S) in
+  build-length = build-ind k μ m (λ cols S w. 0 < count k S → length (w .groups) < count k S) (λ cols S fits few p. p) (λ cols S fits two ih p.
+      let small = walked-length (split-parts k μ m cols S fits two) (λ P l c. ih P l c (part-in k μ m cols S fits two l .1)) (after k μ m cols S) in
       omega (arith, split-two cols S fits two))
 
 -- ---- the order in the file
@@ -225,17 +225,17 @@ module _ (k : ℕ) where
       let more = kept (λ x. eqb (low k (x .taxa)) (suc n)) (g ∷ gs) in
       (rest ++ more, ap (λ (x : List Group). x ++ more) q)
 
-  module _ (m : ℕ) (cols : ℕ → Column) (S : ℕ) (fits : S < 2 ^ k) where
-    sh : Shape k (S ∷ []) (build k m cols S .groups)
-    sh = build-shape k m cols S fits
+  module _ (μ : ℕ → ℕ) (m : ℕ) (cols : ℕ → Column) (S : ℕ) (fits : S < 2 ^ k) where
+    sh : Shape k (S ∷ []) (build k μ m cols S .groups)
+    sh = build-shape k μ m cols S fits
 
     -- A group of the build has its lowest taxon, which is one of S.
-    pub group-low : {x : Group} → List·Memᴰ x (build k m cols S .groups) → low k (x .taxa) ∈ x .taxa × low k (x .taxa) ∈ S
+    pub group-low : {x : Group} → List·Memᴰ x (build k μ m cols S .groups) → low k (x .taxa) ∈ x .taxa × low k (x .taxa) ∈ S
     group-low {x} l =
         let s = shape-in k sh l in
         let h = low-in k {x = x .taxa} (count-pos k (omega (arith, sh .two x l))) (omega (arith, ⊆-≤ s)) in
         (h, s .sub h)
 
     -- So the file's order is document 01's.
-    pub file-order : (n : ℕ) → Line (InFileOrder k) (ordered k n (build k m cols S .groups))
+    pub file-order : (n : ℕ) → Line (InFileOrder k) (ordered k n (build k μ m cols S .groups))
     file-order n = ordered-line n (sh .lined) (λ x l. group-low l .0)

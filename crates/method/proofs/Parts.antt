@@ -9,10 +9,11 @@ use native.Mathlib.Nat.{eq-or-lt-of-le}
 use native.Mathlib.Omega.{arith}
 use borrow.Author.Tests.{eqb-true, eq-eqb}
 use Rattle.taxa.specs.Sum.{sum}
-use Rattle.taxa.specs.Sets.{has, _∈_, _∉_, _⊆_, _∩_, _∖_, within, count, low}
+use Rattle.taxa.specs.Sets.{has, _∈_, _∉_, _⊆_, _∩_, _∖_, within, mass, Positive, count, low}
 use Rattle.taxa.proofs.Sums.{sum-none, term-≤}
 use Rattle.taxa.proofs.Members.{none as nothing, in?, in∩, in∖, ext, empty, ⊆-refl, ⊆-trans, ∩-⊆, ∩-⊆ʳ, ∖-⊆, ⊆-≤, within-⊆, below, low-in}
-use Rattle.taxa.proofs.Counts.{count-none, count-zero, count-le, count-<, count-in}
+use Rattle.taxa.proofs.Masses.{mass-none, mass-in}
+use Rattle.taxa.proofs.Counts.{count-zero, count-le, count-<}
 use Rattle.method.specs.Split.{Column, raise, lower, share, Division, flip, flipped, apart, part, partsOf, parts}
 use Rattle.method.proofs.Least.{Least, least-is}
 use Rattle.method.proofs.Shares.{submodular, share-rest, share-all, parted-in}
@@ -20,25 +21,25 @@ use Rattle.method.proofs.Flips.{Flip, up, left, right, flip-is}
 
 -- ---- sets apart, and parts
 
-module _ (k m : ℕ) (cols : ℕ → Column) (S : ℕ) where
+module _ (k : ℕ) (μ : ℕ → ℕ) (m : ℕ) (cols : ℕ → Column) (S : ℕ) where
   pub record Apart (A : ℕ) : Type 0 where
-    pub none : (c : ℕ) → c < m → share k S A (cols c) ≡ 0
+    pub none : (c : ℕ) → c < m → share k μ S A (cols c) ≡ 0
 
-  apart-is : (A : ℕ) → (apart k m cols S A ≡ true) ↔ Apart A
+  apart-is : (A : ℕ) → (apart k μ m cols S A ≡ true) ↔ Apart A
   unfolding apart
   apart-is A = (
-    λ e. record { none = λ c l. omega (arith, term-≤ m (λ c. share k S A (cols c)) l, eqb-true (sum m (λ c. share k S A (cols c))) 0 e) },
-    λ p. eq-eqb (sum m (λ c. share k S A (cols c))) 0 (sum-none m (p .none)),
+    λ e. record { none = λ c l. omega (arith, term-≤ m (λ c. share k μ S A (cols c)) l, eqb-true (sum m (λ c. share k μ S A (cols c))) 0 e) },
+    λ p. eq-eqb (sum m (λ c. share k μ S A (cols c))) 0 (sum-none m (p .none)),
   )
 
   pub apart-∩ : {A D : ℕ} → A ⊆ S → D ⊆ S → Apart A → Apart D → Apart (A ∩ D)
-  apart-∩ {A} {D} a d p q = record { none = λ c l. omega (arith, submodular k S (cols c) A D a d, p .none c l, q .none c l) }
+  apart-∩ {A} {D} a d p q = record { none = λ c l. omega (arith, submodular k μ S (cols c) A D a d, p .none c l, q .none c l) }
 
   pub apart-rest : {A : ℕ} → A ⊆ S → Apart A → Apart (S ∖ A)
-  apart-rest {A} a p = record { none = λ c l. omega (arith, share-rest k S (cols c) A a, p .none c l) }
+  apart-rest {A} a p = record { none = λ c l. omega (arith, share-rest k μ S (cols c) A a, p .none c l) }
 
   apart-all : Apart S
-  apart-all = record { none = λ c l. share-all k S (cols c) }
+  apart-all = record { none = λ c l. share-all k μ S (cols c) }
 
   -- The least set that has taxon i and is apart from the rest of S.
   pub record Part (i P : ℕ) : Type 0 where
@@ -47,25 +48,25 @@ module _ (k m : ℕ) (cols : ℕ → Column) (S : ℕ) where
     pub shut : Apart P
     pub smallest : {Q : ℕ} → Q ⊆ S → i ∈ Q → Apart Q → P ⊆ Q
 
-  pub part-is : {i : ℕ} → i ∈ S → Part i (part k m cols S i)
+  pub part-is : {i : ℕ} → i ∈ S → Part i (part k μ m cols S i)
   unfolding part
   part-is {i} h = record { inside = found .0; member = found .1; shut = found .2; smallest = smallest }
     where
       ok : ℕ → Bool
-      ok A = within A S && has A i && apart k m cols S A
+      ok A = within A S && has A i && apart k μ m cols S A
 
       P : ℕ
-      P = part k m cols S i
+      P = part k μ m cols S i
 
       search-is : Least ok (λ A. A) S S P
       search-is = least-is ok (λ A. A) S S
 
       pass : (A : ℕ) → A ⊆ S → i ∈ A → Apart A → ok A ≡ true
-      pass A s j p = and-eq-true-iff (within A S && has A i) (apart k m cols S A) .1 (and-eq-true-iff (within A S) (has A i) .1 (within-⊆ A S .1 s, j .is), apart-is A .1 p)
+      pass A s j p = and-eq-true-iff (within A S && has A i) (apart k μ m cols S A) .1 (and-eq-true-iff (within A S) (has A i) .1 (within-⊆ A S .1 s, j .is), apart-is A .1 p)
 
       found : P ⊆ S × i ∈ P × Apart P
       found =
-          let (p, q) = and-eq-true-iff (within P S && has P i) (apart k m cols S P) .0 (search-is .passes (pass S (⊆-refl S) h apart-all)) in
+          let (p, q) = and-eq-true-iff (within P S && has P i) (apart k μ m cols S P) .0 (search-is .passes (pass S (⊆-refl S) h apart-all)) in
           let (r, s) = and-eq-true-iff (within P S) (has P i) .0 p in
           (within-⊆ P S .0 r, record { is = s }, apart-is P .0 q)
 
@@ -137,7 +138,7 @@ module _ (k m : ℕ) (cols : ℕ → Column) (S : ℕ) where
   module _ (fits : S < 2 ^ k) where
     -- Enough fuel for R makes a list of its parts.
     abbrev Enough : ℕ → Type 0
-    Enough f = (R : ℕ) → R ⊆ S → Apart R → count k R ≤ f → Parts R (partsOf k m cols S f R)
+    Enough f = (R : ℕ) → R ⊆ S → Apart R → count k R ≤ f → Parts R (partsOf k μ m cols S f R)
 
     parts-step : (f : ℕ) → Enough f → Enough (suc f)
     unfolding partsOf
@@ -154,7 +155,7 @@ module _ (k m : ℕ) (cols : ℕ → Column) (S : ℕ) where
         lS = s .sub lR
 
         P : ℕ
-        P = part k m cols S (low k R)
+        P = part k μ m cols S (low k R)
 
         p : Part (low k R) P
         p = part-is lS
@@ -175,14 +176,14 @@ module _ (k m : ℕ) (cols : ℕ → Column) (S : ℕ) where
     parts-of (suc f) = parts-step f (parts-of f)
 
     -- The parts of S are such a list.
-    pub parts-are : Parts S (parts k m cols S)
+    pub parts-are : Parts S (parts k μ m cols S)
     unfolding parts
     parts-are = parts-of k S (⊆-refl S) apart-all (count-le k S)
 
     -- A column that takes part and has a one in a part has all its ones of S there.
-    pub ones-together : {A i j l : ℕ} (c : ℕ) → c < m → A ⊆ S → Apart A → l ∈ S → l ∈ cols c .zeros → i ∈ A → i ∈ cols c .ones → j ∈ S → j ∈ cols c .ones → j ∈ A
+    pub ones-together : Positive μ → {A i j l : ℕ} (c : ℕ) → c < m → A ⊆ S → Apart A → l ∈ S → l ∈ cols c .zeros → i ∈ A → i ∈ cols c .ones → j ∈ S → j ∈ cols c .ones → j ∈ A
     unfolding share
-    ones-together {A} {i} {j} {l} c b s a lS lz iA io jS jo = go (in? j A)
+    ones-together pos {A} {i} {j} {l} c b s a lS lz iA io jS jo = go (in? j A)
       where
         go : Dec (j ∈ A) → j ∈ A
         go (yes h) = h
@@ -191,37 +192,37 @@ module _ (k m : ℕ) (cols : ℕ → Column) (S : ℕ) where
             omega (
               arith,
               a .none c b,
-              count-in k (below k fits (s .sub iA)) (in∩ (cols c .ones) A .1 (io, iA)),
-              count-in k (below k fits jS) (in∩ (cols c .ones) (S ∖ A) .1 (jo, in∖ S A .1 (jS, n))),
-              count-in k (below k fits lS) (in∩ (cols c .zeros) S .1 (lz, lS)),
+              mass-in k μ pos (below k fits (s .sub iA)) (in∩ (cols c .ones) A .1 (io, iA)),
+              mass-in k μ pos (below k fits jS) (in∩ (cols c .ones) (S ∖ A) .1 (jo, in∖ S A .1 (jS, n))),
+              mass-in k μ pos (below k fits lS) (in∩ (cols c .zeros) S .1 (lz, lS)),
             ))
 
 -- ---- after the flips of a division
 
 -- The flipped column has no zero left in S, or no one on one of the sides.
-flip-apart : (k S A : ℕ) (c : Column) → share k S A (flip k S A c) ≡ 0
+flip-apart : (k : ℕ) (μ : ℕ → ℕ) (S A : ℕ) (c : Column) → share k μ S A (flip k μ S A c) ≡ 0
 unfolding share raise lower
-flip-apart k S A c = go (flip-is k S A c)
+flip-apart k μ S A c = go (flip-is k μ S A c)
   where
-    gone : (x y : ℕ) → count k ((x ∖ y) ∩ y) ≡ 0
-    gone x y = ap (count k) (empty (λ i h. let (p, q) = in∩ (x ∖ y) y .0 h in in∖ x y .0 p .1 q)) ∙ count-none k
+    gone : (x y : ℕ) → mass k μ ((x ∖ y) ∩ y) ≡ 0
+    gone x y = ap (mass k μ) (empty (λ i h. let (p, q) = in∩ (x ∖ y) y .0 h in in∖ x y .0 p .1 q)) ∙ mass-none k μ
 
-    go : {d : Column} → Flip k S A c d → share k S A d ≡ 0
+    go : {d : Column} → Flip k μ S A c d → share k μ S A d ≡ 0
     go (up h l) = omega (arith, gone (c .zeros) S)
     go (left h l) = omega (arith, gone (c .ones) A)
     go (right h l) = omega (arith, gone (c .ones) (S ∖ A))
 
-module _ (k m : ℕ) (cols : ℕ → Column) (S A : ℕ) (s : A ⊆ S) where
-  pub flipped-apart : Apart k m (flipped k m cols S A) S A
+module _ (k : ℕ) (μ : ℕ → ℕ) (m : ℕ) (cols : ℕ → Column) (S A : ℕ) (s : A ⊆ S) where
+  pub flipped-apart : Apart k μ m (flipped k μ m cols S A) S A
   unfolding flipped
-  flipped-apart = record { none = λ c l. flip-apart k S A (cols c) }
+  flipped-apart = record { none = λ c l. flip-apart k μ S A (cols c) }
 
   -- Each part lies on one side of the division,
-  pub part-side : {i P : ℕ} → Part k m (flipped k m cols S A) S i P → P ⊆ A ⊎ P ⊆ S ∖ A
-  part-side p = one-side k m (flipped k m cols S A) S p s flipped-apart
+  pub part-side : {i P : ℕ} → Part k μ m (flipped k μ m cols S A) S i P → P ⊆ A ⊎ P ⊆ S ∖ A
+  part-side p = one-side k μ m (flipped k μ m cols S A) S p s flipped-apart
 
   -- and so is smaller than S: there are at least two.
-  pub part-smaller : {i P : ℕ} → S < 2 ^ k → Division k S A → Part k m (flipped k m cols S A) S i P → count k P < count k S
+  pub part-smaller : {i P : ℕ} → S < 2 ^ k → Division k S A → Part k μ m (flipped k μ m cols S A) S i P → count k P < count k S
   part-smaller {i} {P} fits d p = ⊎-elim in-A in-rest (part-side p)
     where
       miss : {j : ℕ} → j ∈ S → j ∉ P → count k P < count k S

@@ -36,24 +36,24 @@ setOf-is (suc k) A {i} = go (A k) refl (setOf-is k A)
       λ x. ⊎-elim (λ f. absurd (true≢false (sym (x .1) ∙ ap A f ∙ e))) (λ ne. h .1 (omega (arith, x .0), x .1)) (same? i k),
     )
 
-module _ (k m : ℕ) (cols : ℕ → Column) (S : ℕ) (fits : S < 2 ^ k) (two : 1 < count k S) where
+module _ (k : ℕ) (μ : ℕ → ℕ) (m : ℕ) (cols : ℕ → Column) (S : ℕ) (fits : S < 2 ^ k) (two : 1 < count k S) where
   abbrev s : ℕ
   s = low k S
 
   abbrev A : ℕ
-  A = side k m cols S
+  A = side k μ m cols S
 
   abbrev t : ℕ
   t = parted k S A
 
   abbrev cost : ℕ → ℕ
-  cost = divisionCost k m cols S
+  cost = divisionCost k μ m cols S
 
   abbrev caps : ℕ → ℕ → ℕ
-  caps = arcs k m cols S
+  caps = arcs k μ m cols S
 
   abbrev thrs : ℕ → ℕ
-  thrs = limits k m cols S
+  thrs = limits k μ m cols S
 
   abbrev HopsTo : (ℕ → ℕ → ℕ) → (ℕ → ℕ → ℕ) → ℕ → Type 0
   HopsTo out inn = Reach k m caps thrs out inn s
@@ -61,24 +61,24 @@ module _ (k m : ℕ) (cols : ℕ → Column) (S : ℕ) (fits : S < 2 ^ k) (two :
   abbrev LargestTo : (ℕ → ℕ → ℕ) → (ℕ → ℕ → ℕ) → ℕ → ℕ → Type 0
   LargestTo out inn = Largest k m caps thrs out inn s
 
-  best : Best k m cols S A
-  best = side-best k m cols S fits two
+  best : Best k μ m cols S A
+  best = side-best k μ m cols S fits two
 
   low-below : s < k
-  low-below = below k fits (low-S k m cols S fits two)
+  low-below = below k fits (low-S k μ m cols S fits two)
 
   -- ---- what a flow search finds is the split by listing
 
-  pub search-names : {u D : ℕ} → FlowSearch k m cols S u D → (u ≡ t) × (D ≡ A)
-  search-names {u} {D} r = let (e, f) = reached-side k m cols S fits two found in (f ∙ ap (parted k S) e, e)
+  pub search-names : {u D : ℕ} → FlowSearch k μ m cols S u D → (u ≡ t) × (D ≡ A)
+  search-names {u} {D} r = let (e, f) = reached-side k μ m cols S fits two found in (f ∙ ap (parted k S) e, e)
     where
       largest : LargestTo (r .out u) (r .inn u) u (r .size u)
       largest = r .largest u (r .target) (r .other)
 
       inside : D ⊆ S
-      inside = record { sub = λ {i} h. reach-in k m cols S fits two (r .reached i .0 h) }
+      inside = record { sub = λ {i} h. reach-in k μ m cols S fits two (r .reached i .0 h) }
 
-      found : Reached k m cols S (r .size) u D
+      found : Reached k μ m cols S (r .size) u D
       found = record {
         short = omega (arith, ⊆-≤ inside);
         out = r .out;
@@ -110,7 +110,7 @@ module _ (k m : ℕ) (cols : ℕ → Column) (S : ℕ) (fits : S < 2 ^ k) (two :
       proper = λ q. off (subst (λ (X : ℕ). i ∈ X) (sym q) h);
     };
     is-parted = in∖ S D .1 (h, off);
-    full = min-cut k m caps thrs (e .out) (e .inn) (e .flow) low-below (has D) hops (outside-of off) .0 ∙ network-cost k m cols S D inside;
+    full = min-cut k m caps thrs (e .out) (e .inn) (e .flow) low-below (has D) hops (outside-of off) .0 ∙ network-cost k μ m cols S D inside;
     reached = to;
   }
     where
@@ -121,7 +121,7 @@ module _ (k m : ℕ) (cols : ℕ → Column) (S : ℕ) (fits : S < 2 ^ k) (two :
       to {x} d = let (b, a) = setOf-is k (e .set) .0 d in e .reached x b .0 a
 
       inside : D ⊆ S
-      inside = record { sub = λ d. reach-in k m cols S fits two (to d) }
+      inside = record { sub = λ d. reach-in k μ m cols S fits two (to d) }
 
       off : i ∉ D
       off d = true≢false (sym (setOf-is k (e .set) .0 d .1) ∙ e .missed)
@@ -149,7 +149,7 @@ module _ (k m : ℕ) (cols : ℕ → Column) (S : ℕ) (fits : S < 2 ^ k) (two :
           record { out = e .out; inn = e .inn; size = e .size; set = setOf k (e .set); is = λ g q. parting i ne h e }
 
   t-parted : t ∈ S × t ∉ A
-  t-parted = in∖ S A .0 (side-rule k m cols S fits two .is-parted)
+  t-parted = in∖ S A .0 (side-rule k μ m cols S fits two .is-parted)
 
   t-other : t ≢ s
   t-other e = t-parted .1 (subst (λ (i : ℕ). i ∈ A) (sym e) (best .is-division .lowest))
@@ -164,10 +164,10 @@ module _ (k m : ℕ) (cols : ℕ → Column) (S : ℕ) (fits : S < 2 ^ k) (two :
     at-t .full,
     best .cheapest (pick t .set) (at-t .is-division),
     weak k m caps thrs (pick t .out) (pick t .inn) (at-t .largest .flow) low-below (has A) (best .is-division .lowest .is) (outside-of (t-parted .1)),
-    network-cost k m cols S A (best .is-division .inside),
+    network-cost k μ m cols S A (best .is-division .inside),
   )
 
-  pub search-finds : FlowSearch k m cols S t A
+  pub search-finds : FlowSearch k μ m cols S t A
   search-finds = record {
     size = λ i. pick i .size;
     out = λ i. pick i .out;
@@ -184,21 +184,21 @@ module _ (k m : ℕ) (cols : ℕ → Column) (S : ℕ) (fits : S < 2 ^ k) (two :
       at-least i h ne = let p = pick i .is h ne in omega (arith, size-t, p .full, best .cheapest (pick i .set) (p .is-division))
 
       nearest : (i : ℕ) → i ∈ S → i ≢ s → pick i .size ≡ pick t .size → t ≤ i
-      nearest i h ne e = let p = pick i .is h ne in side-rule k m cols S fits two .lowest (pick i .set) i (p .is-division) (sym (p .full) ∙ e ∙ size-t) (p .is-parted)
+      nearest i h ne e = let p = pick i .is h ne in side-rule k μ m cols S fits two .lowest (pick i .set) i (p .is-division) (sym (p .full) ∙ e ∙ size-t) (p .is-parted)
 
       -- Side A is in the set reached, which costs as little; and hops do not leave A, for it costs as much as the flow.
       within : A ⊆ pick t .set
-      within = side-inner k m cols S fits two (pick t .set) (at-t .is-division) (sym (at-t .full) ∙ size-t) (at-t .is-parted)
+      within = side-inner k μ m cols S fits two (pick t .set) (at-t .is-division) (sym (at-t .full) ∙ size-t) (at-t .is-parted)
 
       from : {i : ℕ} → HopsTo (pick t .out) (pick t .inn) i → i ∈ A
-      from r = record { is = least k m caps thrs (pick t .out) (pick t .inn) (at-t .largest .flow) low-below (has A) (best .is-division .lowest .is) (outside-of (t-parted .1)) (network-cost k m cols S A (best .is-division .inside) ∙ sym size-t) r }
+      from r = record { is = least k m caps thrs (pick t .out) (pick t .inn) (at-t .largest .flow) low-below (has A) (best .is-division .lowest .is) (outside-of (t-parted .1)) (network-cost k μ m cols S A (best .is-division .inside) ∙ sym size-t) r }
 
   -- ---- what is promised of the split
 
-  pub split-flow : (out : ℕ → ℕ → ℕ) × (inn : ℕ → ℕ → ℕ) × Flow k m caps thrs out inn s t (splitCost k m cols S)
+  pub split-flow : (out : ℕ → ℕ → ℕ) × (inn : ℕ → ℕ → ℕ) × Flow k m caps thrs out inn s t (splitCost k μ m cols S)
   split-flow = (pick t .out, pick t .inn, rw size-t at (at-t .largest .flow))
 
-  pub split-promise : SplitPromise k m cols S
+  pub split-promise : SplitPromise k μ m cols S
   split-promise =
       let (out, inn, flow) = split-flow in
-      record { cheapest = side-cheapest k m cols S fits two; out = out; inn = inn; flow = flow; found = search-finds; only = search-names }
+      record { cheapest = side-cheapest k μ m cols S fits two; out = out; inn = inn; flow = flow; found = search-finds; only = search-names }

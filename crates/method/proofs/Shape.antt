@@ -51,19 +51,19 @@ module _ (k : ℕ) where
   no-shape : (Ps : List ℕ) → Shape Ps []
   no-shape Ps = record { inside = λ g l. absurd (List·Memᴰ·not-nil l); two = λ g l. absurd (List·Memᴰ·not-nil l); lined = end }
 
-  module _ (m : ℕ) where
-    walked-shape : {old : ℕ → Column} {S R : ℕ} {Ps : List ℕ} → Parts k m old S R Ps
-        → ((P : ℕ) → List·Memᴰ P Ps → (cols : ℕ → Column) → Shape (P ∷ []) (build k m cols P .groups)) → (cols : ℕ → Column) → Shape Ps (walked (build k m) cols Ps .groups)
+  module _ (μ : ℕ → ℕ) (m : ℕ) where
+    walked-shape : {old : ℕ → Column} {S R : ℕ} {Ps : List ℕ} → Parts k μ m old S R Ps
+        → ((P : ℕ) → List·Memᴰ P Ps → (cols : ℕ → Column) → Shape (P ∷ []) (build k μ m cols P .groups)) → (cols : ℕ → Column) → Shape Ps (walked (build k μ m) cols Ps .groups)
     unfolding walked
     walked-shape done t cols = no-shape []
     walked-shape {old} {S} (next {R} {P} {Ps} s p ps) t cols =
-        join (t P (List·Memᴰ·head refl) cols) (walked-shape ps (λ Q l. t Q (List·Memᴰ·tail l)) (build k m cols P .columns))
+        join (t P (List·Memᴰ·head refl) cols) (walked-shape ps (λ Q l. t Q (List·Memᴰ·tail l)) (build k μ m cols P .columns))
       where
         gs : List Group
-        gs = build k m cols P .groups
+        gs = build k μ m cols P .groups
 
         hs : List Group
-        hs = walked (build k m) (build k m cols P .columns) Ps .groups
+        hs = walked (build k μ m) (build k μ m cols P .columns) Ps .groups
 
         join : Shape (P ∷ []) gs → Shape Ps hs → Shape (P ∷ Ps) (gs ++ hs)
         join a b = record {
@@ -71,11 +71,11 @@ module _ (k : ℕ) where
           two = λ x l. ⊎-elim (a .two x) (b .two x) (List·Memᴰ·append-cases gs l);
           lined = line-++ (a .lined) (b .lined) (λ x y h l.
               let (Q, z, w) = b .inside y l in
-              apart (record { off = λ i j. in∖ R P .0 (inside-R k m old S ps z .sub (w .sub j)) .1 (shape-in a h .sub i) }));
+              apart (record { off = λ i j. in∖ R P .0 (inside-R k μ m old S ps z .sub (w .sub j)) .1 (shape-in a h .sub i) }));
         }
 
     node-shape : (cols : ℕ → Column) (S : ℕ) → S < 2 ^ k → 1 < count k S
-        → ((P : ℕ) → List·Memᴰ P (splitParts k m cols S) → (c : ℕ → Column) → Shape (P ∷ []) (build k m c P .groups)) → Shape (S ∷ []) (node k m (build k m) cols S .groups)
+        → ((P : ℕ) → List·Memᴰ P (splitParts k μ m cols S) → (c : ℕ → Column) → Shape (P ∷ []) (build k μ m c P .groups)) → Shape (S ∷ []) (node k μ m (build k μ m) cols S .groups)
     unfolding node
     node-shape cols S fits two t = record {
       inside = λ x l. (S, List·Memᴰ·head refl, ⊎-elim (λ e. subst (λ (X : ℕ). X ⊆ S) (sym (ap (λ (y : Group). y .taxa) e)) (⊆-refl S)) (λ h. below x h .0) (List·Memᴰ·cases-cons l));
@@ -83,22 +83,22 @@ module _ (k : ℕ) where
       lined = and (λ y l. holds (below y l .0) (below y l .1)) (b .lined);
     }
       where
-        ps : Parts k m (after k m cols S) S S (splitParts k m cols S)
-        ps = split-parts k m cols S fits two
+        ps : Parts k μ m (after k μ m cols S) S S (splitParts k μ m cols S)
+        ps = split-parts k μ m cols S fits two
 
         hs : List Group
-        hs = walked (build k m) (after k m cols S) (splitParts k m cols S) .groups
+        hs = walked (build k μ m) (after k μ m cols S) (splitParts k μ m cols S) .groups
 
-        b : Shape (splitParts k m cols S) hs
-        b = walked-shape ps t (after k m cols S)
+        b : Shape (splitParts k μ m cols S) hs
+        b = walked-shape ps t (after k μ m cols S)
 
         below : (x : Group) → List·Memᴰ x hs → (x .taxa ⊆ S) × (count k (x .taxa) < count k S)
         below x h =
             let (P, l, s) = b .inside x h in
-            (⊆-trans s (inside-R k m (after k m cols S) S ps l), omega (arith, count-⊆ k s, part-in k m cols S fits two l .2))
+            (⊆-trans s (inside-R k μ m (after k μ m cols S) S ps l), omega (arith, count-⊆ k s, part-in k μ m cols S fits two l .2))
 
-    pub build-shape : (cols : ℕ → Column) (S : ℕ) → S < 2 ^ k → Shape (S ∷ []) (build k m cols S .groups)
-    build-shape = build-ind k m (λ cols S w. Shape (S ∷ []) (w .groups)) (λ cols S fits few. no-shape (S ∷ [])) node-shape
+    pub build-shape : (cols : ℕ → Column) (S : ℕ) → S < 2 ^ k → Shape (S ∷ []) (build k μ m cols S .groups)
+    build-shape = build-ind k μ m (λ cols S w. Shape (S ∷ []) (w .groups)) (λ cols S fits few. no-shape (S ∷ [])) node-shape
 
   -- So the groups are nested or disjoint.
   ahead-pair : {x y : Group} → Ahead x y → NestedOrDisjoint (x .taxa) (y .taxa)

@@ -7,20 +7,20 @@ use native.Mathlib.Decide.{decLt}
 use native.Mathlib.Omega.{arith}
 use lib.Dec.{eqb}
 use borrow.Author.Tests.{eqb-false, ne-eqb, not-true}
-use Rattle.taxa.specs.Sets.{has, _∈_, _∉_, _⊆_, _∩_, _∪_, _∖_, within, count, low}
+use Rattle.taxa.specs.Sets.{has, _∈_, _∉_, _⊆_, _∩_, _∪_, _∖_, within, mass, low}
 use Rattle.taxa.proofs.Members.{none, in?, in∖, ext, empty, ∩-mono, ∪-⊆, ⊆-trans, ∩-⊆, ∩-⊆ʳ, ∖-⊆, ⊆-≤, within-⊆, ∩-over-∪, ∩-over-∩, ∩-over-∖, ∩-part, low-in}
-use Rattle.taxa.proofs.Counts.{count-none, count-⊆, count-∪-∩, count-∖-∩}
+use Rattle.taxa.proofs.Masses.{mass-none, mass-⊆, mass-∪-∩, mass-∖-∩}
 use Rattle.method.specs.Split.{Column, share, Division, division, parted}
 
--- ---- counts of ones
+-- ---- the mass of the ones
 
 -- The ones in S are those in A and those in the rest.
-count-cut : (k o S A : ℕ) → A ⊆ S → count k (o ∩ S) ≡ count k (o ∩ A) + count k (o ∩ (S ∖ A))
-count-cut k o S A s = omega (arith, count-∖-∩ k (o ∩ S) A, ap (count k) (∩-over-∖ o S A), ap (count k) (∩-part o s))
+mass-cut : (k : ℕ) (μ : ℕ → ℕ) (o S A : ℕ) → A ⊆ S → mass k μ (o ∩ S) ≡ mass k μ (o ∩ A) + mass k μ (o ∩ (S ∖ A))
+mass-cut k μ o S A s = omega (arith, mass-∖-∩ k μ (o ∩ S) A, ap (mass k μ) (∩-over-∖ o S A), ap (mass k μ) (∩-part o s))
 
 -- The ones in either and the ones in both.
-count-mod : (k o A D : ℕ) → count k (o ∩ (A ∪ D)) + count k (o ∩ (A ∩ D)) ≡ count k (o ∩ A) + count k (o ∩ D)
-count-mod k o A D = omega (arith, count-∪-∩ k (o ∩ A) (o ∩ D), ap (count k) (∩-over-∪ o A D), ap (count k) (∩-over-∩ o A D))
+mass-mod : (k : ℕ) (μ : ℕ → ℕ) (o A D : ℕ) → mass k μ (o ∩ (A ∪ D)) + mass k μ (o ∩ (A ∩ D)) ≡ mass k μ (o ∩ A) + mass k μ (o ∩ D)
+mass-mod k μ o A D = omega (arith, mass-∪-∩ k μ (o ∩ A) (o ∩ D), ap (mass k μ) (∩-over-∪ o A D), ap (mass k μ) (∩-over-∩ o A D))
 
 -- A taxon of S that is not in the rest of S is in A.
 pub not-rest : {S A i : ℕ} → i ∈ S → i ∉ S ∖ A → i ∈ A
@@ -47,30 +47,30 @@ concave a a′ d d′ u u′ v v′ z e l l′ h h′ h″ = go (least3 v v′ z
     go : (F G : ℕ) → (F ≤ v) × (F ≤ v′) × (F ≤ z) → (G ≤ u) × (G ≤ u′) × (G ≤ z) → F + G ≤ least3 a a′ z + least3 d d′ z
     go F G f g = omega arith
 
-module _ (k S : ℕ) (c : Column) where
+module _ (k : ℕ) (μ : ℕ → ℕ) (S : ℕ) (c : Column) where
   open Column c using (ones as o, zeros as z)
 
   -- Two sets cost no less than what they share and what they make together.
-  pub submodular : (A D : ℕ) → A ⊆ S → D ⊆ S → share k S (A ∩ D) c + share k S (A ∪ D) c ≤ share k S A c + share k S D c
+  pub submodular : (A D : ℕ) → A ⊆ S → D ⊆ S → share k μ S (A ∩ D) c + share k μ S (A ∪ D) c ≤ share k μ S A c + share k μ S D c
   unfolding share
   submodular A D a d =
       concave (n A) (n (S ∖ A)) (n D) (n (S ∖ D)) (n (A ∪ D)) (n (S ∖ (A ∪ D))) (n (A ∩ D)) (n (S ∖ (A ∩ D))) _
-      (count-mod k o A D) (count-⊆ k (∩-mono o (∩-⊆ A D))) (count-⊆ k (∩-mono o (∩-⊆ʳ A D)))
+      (mass-mod k μ o A D) (mass-⊆ k μ (∩-mono o (∩-⊆ A D))) (mass-⊆ k μ (∩-mono o (∩-⊆ʳ A D)))
       (sym (cut A a) ∙ cut D d) (sym (cut A a) ∙ cut (A ∪ D) (∪-⊆ a d)) (sym (cut A a) ∙ cut (A ∩ D) (⊆-trans (∩-⊆ A D) a))
     where
       n : ℕ → ℕ
-      n X = count k (o ∩ X)
+      n X = mass k μ (o ∩ X)
 
       cut : (X : ℕ) → X ⊆ S → n S ≡ n X + n (S ∖ X)
-      cut X s = count-cut k o S X s
+      cut X s = mass-cut k μ o S X s
 
-  pub share-rest : (A : ℕ) → A ⊆ S → share k S (S ∖ A) c ≡ share k S A c
+  pub share-rest : (A : ℕ) → A ⊆ S → share k μ S (S ∖ A) c ≡ share k μ S A c
   unfolding share
-  share-rest A s = omega (arith, ap (λ (X : ℕ). count k (o ∩ X)) (rest-rest s))
+  share-rest A s = omega (arith, ap (λ (X : ℕ). mass k μ (o ∩ X)) (rest-rest s))
 
-  pub share-all : share k S S c ≡ 0
+  pub share-all : share k μ S S c ≡ 0
   unfolding share
-  share-all = omega (arith, ap (count k) (empty (λ i h. in∖ S S .0 (∩-⊆ʳ o (S ∖ S) .sub h) .1 (in∖ S S .0 (∩-⊆ʳ o (S ∖ S) .sub h) .0))), count-none k)
+  share-all = omega (arith, ap (mass k μ) (empty (λ i h. in∖ S S .0 (∩-⊆ʳ o (S ∖ S) .sub h) .1 (in∖ S S .0 (∩-⊆ʳ o (S ∖ S) .sub h) .0))), mass-none k μ)
 
 -- ---- divisions
 

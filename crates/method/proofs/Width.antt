@@ -5,23 +5,27 @@ use Prim.Native.Nat.{ℕ, _*_, _^_, _≤_, _<_}
 use native.Mathlib.Omega.{arith}
 use lib.Dec.{ltb}
 use lib.Pow.{pow-mono}
-use Rattle.taxa.specs.Sets.{has, _∈_, _⊆_, _∩_, count, low}
+use Rattle.taxa.specs.Sets.{has, _∈_, _⊆_, _∩_, mass, count, low}
 use Rattle.taxa.proofs.Sums.{sum-≡}
 use Rattle.taxa.proofs.Members.{⊆-refl, ∖-⊆, ∩-≤, ⊆-≤, low-width}
+use Rattle.taxa.proofs.Masses.{mass-width}
 use Rattle.taxa.proofs.Counts.{count-width, count-pos}
 use Rattle.method.specs.Split.{Column, share, Division, parted, divisionCost, Rule, side}
 use Rattle.method.specs.Flow.{joined, cap, through}
 use Rattle.method.proofs.Listing.{side-rule, rule-only}
 
-module _ {j k : ℕ} (l : j ≤ k) {S : ℕ} (fits : S < 2 ^ j) where
+module _ (μ : ℕ → ℕ) {j k : ℕ} (l : j ≤ k) {S : ℕ} (fits : S < 2 ^ j) where
+  mass-in-S : (o : ℕ) {X : ℕ} → X ⊆ S → mass j μ (o ∩ X) ≡ mass k μ (o ∩ X)
+  mass-in-S o {X} s = mass-width μ l (omega (arith, ∩-≤ o X, ⊆-≤ s))
+
   count-in-S : (o : ℕ) {X : ℕ} → X ⊆ S → count j (o ∩ X) ≡ count k (o ∩ X)
   count-in-S o {X} s = count-width l (omega (arith, ∩-≤ o X, ⊆-≤ s))
 
-  pub share-width : {A : ℕ} → A ⊆ S → (c : Column) → share j S A c ≡ share k S A c
+  pub share-width : {A : ℕ} → A ⊆ S → (c : Column) → share j μ S A c ≡ share k μ S A c
   unfolding share
-  share-width {A} s c = omega (arith, count-in-S (c .ones) s, count-in-S (c .ones) (∖-⊆ S A), count-in-S (c .zeros) (⊆-refl S))
+  share-width {A} s c = omega (arith, mass-in-S (c .ones) s, mass-in-S (c .ones) (∖-⊆ S A), mass-in-S (c .zeros) (⊆-refl S))
 
-  pub cost-width : (m : ℕ) (cols : ℕ → Column) {A : ℕ} → A ⊆ S → divisionCost j m cols S A ≡ divisionCost k m cols S A
+  pub cost-width : (m : ℕ) (cols : ℕ → Column) {A : ℕ} → A ⊆ S → divisionCost j μ m cols S A ≡ divisionCost k μ m cols S A
   unfolding divisionCost
   cost-width m cols s = sum-≡ m (λ c b. ap (λ (n : ℕ). cols c .weight * n) (share-width s (cols c)))
 
@@ -30,13 +34,13 @@ module _ {j k : ℕ} (l : j ≤ k) {S : ℕ} (fits : S < 2 ^ j) where
   unfolding joined
   joined-width c = ap (λ (n : ℕ). cond (ltb 0 n) (c .ones ∩ S) 0) (count-in-S (c .zeros) (⊆-refl S))
 
-  pub cap-width : (c : Column) (i : ℕ) → cap j S c i ≡ cap k S c i
+  pub cap-width : (c : Column) (i : ℕ) → cap j μ S c i ≡ cap k μ S c i
   unfolding cap
-  cap-width c i = ap (λ (x : ℕ). cond (has x i) (c .weight) 0) (joined-width c)
+  cap-width c i = ap (λ (x : ℕ). cond (has x i) (c .weight * μ i) 0) (joined-width c)
 
-  pub through-width : (c : Column) → through j S c ≡ through k S c
+  pub through-width : (c : Column) → through j μ S c ≡ through k μ S c
   unfolding through
-  through-width c = ap (λ (n : ℕ). c .weight * n) (count-in-S (c .zeros) (⊆-refl S))
+  through-width c = ap (λ (n : ℕ). c .weight * n) (mass-in-S (c .zeros) (⊆-refl S))
 
   module _ (two : 1 < count j S) (m : ℕ) (cols : ℕ → Column) where
     same-low : low j S ≡ low k S
@@ -51,7 +55,7 @@ module _ {j k : ℕ} (l : j ≤ k) {S : ℕ} (fits : S < 2 ^ j) where
     narrow : {A : ℕ} → Division k S A → Division j S A
     narrow {A} d = record { inside = d .inside; lowest = subst (λ (i : ℕ). i ∈ A) (sym same-low) (d .lowest); proper = d .proper }
 
-    rule-width : {A t : ℕ} → Rule j m cols S A t → Rule k m cols S A t
+    rule-width : {A t : ℕ} → Rule j μ m cols S A t → Rule k μ m cols S A t
     rule-width {A} r = record {
       is-division = record { inside = r .is-division .inside; lowest = subst (λ (i : ℕ). i ∈ A) same-low (r .is-division .lowest); proper = r .is-division .proper };
       cheapest = λ D d. omega (arith, at d, at-A, r .cheapest D (narrow d));
@@ -61,20 +65,20 @@ module _ {j k : ℕ} (l : j ≤ k) {S : ℕ} (fits : S < 2 ^ j) where
       only = λ D d e h n. r .only D (narrow d) (equal d e) h (omega (arith, size (d .inside), size (r .is-division .inside)));
     }
       where
-        at : {D : ℕ} → Division k S D → divisionCost j m cols S D ≡ divisionCost k m cols S D
+        at : {D : ℕ} → Division k S D → divisionCost j μ m cols S D ≡ divisionCost k μ m cols S D
         at d = cost-width m cols (d .inside)
 
-        at-A : divisionCost j m cols S A ≡ divisionCost k m cols S A
+        at-A : divisionCost j μ m cols S A ≡ divisionCost k μ m cols S A
         at-A = cost-width m cols (r .is-division .inside)
 
-        equal : {D : ℕ} → Division k S D → divisionCost k m cols S D ≡ divisionCost k m cols S A → divisionCost j m cols S D ≡ divisionCost j m cols S A
+        equal : {D : ℕ} → Division k S D → divisionCost k μ m cols S D ≡ divisionCost k μ m cols S A → divisionCost j μ m cols S D ≡ divisionCost j μ m cols S A
         equal d e = at d ∙ e ∙ sym at-A
 
         size : {X : ℕ} → X ⊆ S → count j X ≡ count k X
         size s = count-width l (omega (arith, ⊆-≤ s))
 
-    pub side-width : side j m cols S ≡ side k m cols S
-    side-width = rule-only k m cols S fits-k two-k (rule-width (side-rule j m cols S fits two)) (side-rule k m cols S fits-k two-k) .0
+    pub side-width : side j μ m cols S ≡ side k μ m cols S
+    side-width = rule-only k μ m cols S fits-k two-k (rule-width (side-rule j μ m cols S fits two)) (side-rule k μ m cols S fits-k two-k) .0
 
-    pub parted-width : parted j S (side j m cols S) ≡ parted k S (side k m cols S)
-    parted-width = rule-only k m cols S fits-k two-k (rule-width (side-rule j m cols S fits two)) (side-rule k m cols S fits-k two-k) .1
+    pub parted-width : parted j S (side j μ m cols S) ≡ parted k S (side k μ m cols S)
+    parted-width = rule-only k μ m cols S fits-k two-k (rule-width (side-rule j μ m cols S fits two)) (side-rule k μ m cols S fits-k two-k) .1

@@ -1,12 +1,12 @@
 -- Flows (document 01, "The network of document 001"). A net flow between a taxon and a column is `out - inn`: `out` units into the column or `inn`
--- units out of it, never both, so that -w to w is: each at most w. And what a flow search finds.
+-- units out of it, never both, so that -w to w is: each at most w (C-14: w times the taxon's multiplicity). And what a flow search finds.
 use Prim.Native.Nat.{ℕ, _+_, _*_, _≤_, _<_, min}
 use mathlib.Core.Path.{_≡_}
 use mathlib.Core.Bool.{Bool, cond}
 use mathlib.Core.Logic.{_≢_, _↔_, _⊎_}
 use lib.Dec.{ltb}
 use Rattle.taxa.specs.Sum.{sum, inside, outside}
-use Rattle.taxa.specs.Sets.{has, _∈_, _⊆_, _∩_, count, low}
+use Rattle.taxa.specs.Sets.{has, _∈_, _⊆_, _∩_, mass, count, low}
 use Rattle.method.specs.Split.{Column, parted, divisionCost, side, splitCost}
 
 -- ---- the network of a group
@@ -16,18 +16,20 @@ module _ (k S : ℕ) where
   unfoldable pub joined : Column → ℕ
   joined c = cond (ltb 0 (count k (c .zeros ∩ S))) (c .ones ∩ S) 0
 
-  -- They "carry at most w"; "every other pair of taxon and column carries none".
+module _ (k : ℕ) (μ : ℕ → ℕ) (S : ℕ) where
+  -- They "carry at most w", and an entry's arc "weighs the column's weight times the taxon's multiplicity"; "every other pair of taxon and column
+  -- carries none".
   unfoldable pub cap : Column → ℕ → ℕ
-  cap c = inside (has (joined c)) (λ i. c .weight)
+  cap c = inside (has (joined k S c)) (λ i. c .weight * μ i)
 
   -- "the arc through a column at most w x z".
   unfoldable pub through : Column → ℕ
-  through c = c .weight * count k (c .zeros ∩ S)
+  through c = c .weight * mass k μ (c .zeros ∩ S)
 
 -- ---- one column of a network: of each taxon i below n, cap i is what its arc carries, and thr what the column lets through
 
 module _ (n : ℕ) (cap : ℕ → ℕ) (thr : ℕ) (out inn : ℕ → ℕ) where
-  -- "It is between -w and w. In a flow the net flows balance at every column [..], and a column's positive ones sum to at most w x z".
+  -- "It is between -w and w", times the multiplicity. "In a flow the net flows balance at every column [..], and a column's positive ones sum to at most w x z".
   pub record ColumnFlow : Type 0 where
     pub out-fits : (i : ℕ) → i < n → out i ≤ cap i
     pub inn-fits : (i : ℕ) → i < n → inn i ≤ cap i
@@ -79,14 +81,14 @@ module _ (n m : ℕ) (cap : ℕ → ℕ → ℕ) (thr : ℕ → ℕ) where
 
 -- ---- the flow search for the split of S
 
-module _ (k m : ℕ) (cols : ℕ → Column) (S : ℕ) where
+module _ (k : ℕ) (μ : ℕ → ℕ) (m : ℕ) (cols : ℕ → Column) (S : ℕ) where
   -- What the arcs of the network of S carry.
   abbrev pub arcs : ℕ → ℕ → ℕ
-  arcs c = cap k S (cols c)
+  arcs c = cap k μ S (cols c)
 
   -- What its columns let through.
   abbrev pub limits : ℕ → ℕ
-  limits c = through k S (cols c)
+  limits c = through k μ S (cols c)
 
   -- What a flow search finds: of largest flows from s, "the lowest taxon of S", to each other taxon of S, the least, first met at t; and as side A
   -- "the taxa still reachable from s past that flow".
@@ -104,9 +106,9 @@ module _ (k m : ℕ) (cols : ℕ → Column) (S : ℕ) where
   -- What is promised of the split of S: no division into two non-empty sides costs less, a flow of exactly that size exists between s and the taxon t
   -- that the split names, and a flow search finds the same division as listing: it finds one, and only that.
   pub record SplitPromise : Type 0 where
-    pub cheapest : (A : ℕ) → A ⊆ S → A ≢ 0 → A ≢ S → splitCost k m cols S ≤ divisionCost k m cols S A
+    pub cheapest : (A : ℕ) → A ⊆ S → A ≢ 0 → A ≢ S → splitCost k μ m cols S ≤ divisionCost k μ m cols S A
     pub out : ℕ → ℕ → ℕ
     pub inn : ℕ → ℕ → ℕ
-    pub flow : Flow k m arcs limits out inn (low k S) (parted k S (side k m cols S)) (splitCost k m cols S)
-    pub found : FlowSearch (parted k S (side k m cols S)) (side k m cols S)
-    pub only : {t A : ℕ} → FlowSearch t A → (t ≡ parted k S (side k m cols S)) × (A ≡ side k m cols S)
+    pub flow : Flow k m arcs limits out inn (low k S) (parted k S (side k μ m cols S)) (splitCost k μ m cols S)
+    pub found : FlowSearch (parted k S (side k μ m cols S)) (side k μ m cols S)
+    pub only : {t A : ℕ} → FlowSearch t A → (t ≡ parted k S (side k μ m cols S)) × (A ≡ side k μ m cols S)

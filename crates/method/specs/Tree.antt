@@ -6,7 +6,8 @@ use mathlib.Core.List.{List, [], _∷_, _++_, List·Memᴰ}
 use Prim.Native.Nat.{ℕ, zero, suc, _+_, _*_, _^_, _≤_, _<_}
 use lib.Dec.{ltb, eqb}
 use lib.ListN.{length, getD}
-use Rattle.taxa.specs.Sets.{_∈_, _∉_, _⊆_, Disjoint, _∩_, _∖_, count, low, all}
+use Rattle.taxa.specs.Sum.{sum}
+use Rattle.taxa.specs.Sets.{_∈_, _∉_, _⊆_, Disjoint, _∩_, _∖_, mass, Positive, count, low, all}
 use Rattle.taxa.specs.Groups.{NestedOrDisjoint, Before}
 use Rattle.method.specs.Split.{Column, raise, lower, Linked, splitCost, after, splitParts}
 
@@ -34,12 +35,12 @@ walked g cols (P ∷ Ps) =
     let rest = walked g (one .columns) Ps in
     record { columns = rest .columns; groups = one .groups ++ rest .groups }
 
-module _ (k m : ℕ) where
+module _ (k : ℕ) (μ : ℕ → ℕ) (m : ℕ) where
   -- "a group hands its parts on": S split, and its parts walked by g. "Only a split changes a column."
   unfoldable pub node : ((ℕ → Column) → ℕ → Walk) → (ℕ → Column) → ℕ → Walk
   node g cols S =
-      let below = walked g (after k m cols S) (splitParts k m cols S) in
-      record { columns = below .columns; groups = record { taxa = S; cost = splitCost k m cols S } ∷ below .groups }
+      let below = walked g (after k μ m cols S) (splitParts k μ m cols S) in
+      record { columns = below .columns; groups = record { taxa = S; cost = splitCost k μ m cols S } ∷ below .groups }
 
   -- "each part is again a group, until one taxon is left", at most f deep.
   unfoldable pub grown : ℕ → (ℕ → Column) → ℕ → Walk
@@ -58,7 +59,7 @@ module _ (k m : ℕ) where
   -- The split of S hands P on, whose turn comes with the columns mid.
   pub record HandsOn (cols : ℕ → Column) (S : ℕ) (mid : ℕ → Column) (P : ℕ) : Type 0 where
     pub two : 1 < count k S
-    pub turn : Turn (after k m cols S) (splitParts k m cols S) mid P
+    pub turn : Turn (after k μ m cols S) (splitParts k μ m cols S) mid P
 
   -- The build of S from the columns cols comes to S′ with the columns cols′, "as flipped so far": to S itself, and to all that the build of a part does.
   pub data Comes : (ℕ → Column) → ℕ → (ℕ → Column) → ℕ → Type 0 where
@@ -110,9 +111,10 @@ unfoldable pub total : List Group → ℕ
 total [] = 0
 total (g ∷ gs) = g .cost + total gs
 
--- A matrix: n, and its columns.
+-- A matrix: n, its multiplicities, "one multiplicity per taxon", none "where it's absent", and its columns.
 pub record Matrix : Type 0 where
   pub taxa : ℕ
+  pub multiplicities : List ℕ
   pub columns : List Column
 
 -- An answer: its groups in file order, its flips, and its total.
@@ -125,22 +127,28 @@ pub record Answer : Type 0 where
 unfoldable pub column : List Column → ℕ → Column
 column cs c = getD cs c (record { weight = 0; ones = 0; zeros = 0 })
 
+-- What taxon i stands for: "where it's absent, all are 1".
+unfoldable pub multiplicity : List ℕ → ℕ → ℕ
+multiplicity ms i = getD ms i 1
+
 -- The answer to a matrix.
 unfoldable pub answer : Matrix → Answer
 answer M =
     let n = M .taxa in
     let m = length (M .columns) in
     let cols = column (M .columns) in
-    let walk = build 64 m cols (all n) in
+    let walk = build 64 (multiplicity (M .multiplicities)) m cols (all n) in
     let groups = ordered 64 n (walk .groups) in
     record { groups = groups; flips = flipList m cols (walk .columns); total = total groups }
 
 -- ---- words of the promises
 
--- What the check of a matrix file sees to (refusals 3 to 7).
+-- What the check of a matrix file sees to (refusals 3 to 7 and 21).
 pub record Sound (M : Matrix) : Type 0 where
   pub some : 0 < M .taxa
   pub few : M .taxa ≤ 64
+  pub positive : Positive (multiplicity (M .multiplicities))
+  pub merged : sum (M .taxa) (multiplicity (M .multiplicities)) ≤ 127
   pub columns-few : length (M .columns) ≤ 256
   pub weighs : (c : ℕ) → c < length (M .columns) → 0 < column (M .columns) c .weight
   pub light : (c : ℕ) → c < length (M .columns) → column (M .columns) c .weight ≤ 65535
@@ -150,7 +158,7 @@ pub record Sound (M : Matrix) : Type 0 where
 
 -- The build of a matrix comes to the group S, of two or more taxa, with the columns cols.
 pub record ComesTo (M : Matrix) (cols : ℕ → Column) (S : ℕ) : Type 0 where
-  pub comes : Comes 64 (length (M .columns)) (column (M .columns)) (all (M .taxa)) cols S
+  pub comes : Comes 64 (multiplicity (M .multiplicities)) (length (M .columns)) (column (M .columns)) (all (M .taxa)) cols S
   pub two : 1 < count 64 S
 
 -- What document 01 says of the parts Ps of S that a division with the side A leaves, by the columns after it: "the connected components of what remains",
@@ -169,10 +177,10 @@ unfoldable pub made : List Flips → (ℕ → Column) → ℕ → Column
 made [] cols = cols
 made (f ∷ fs) cols = made fs (λ c. cond (eqb c (f .column)) (lower (f .lowered) (raise (f .raised) (cols c))) (cols c))
 
--- The flips of a list, each times its column's weight.
-unfoldable pub weighedFlips : ℕ → (ℕ → Column) → List Flips → ℕ
-weighedFlips k cols [] = 0
-weighedFlips k cols (f ∷ fs) = cols (f .column) .weight * (count k (f .raised) + count k (f .lowered)) + weighedFlips k cols fs
+-- The flips of a list: an entry's "weighs the column's weight times the taxon's multiplicity".
+unfoldable pub weighedFlips : ℕ → (ℕ → ℕ) → (ℕ → Column) → List Flips → ℕ
+weighedFlips k μ cols [] = 0
+weighedFlips k μ cols (f ∷ fs) = cols (f .column) .weight * (mass k μ (f .raised) + mass k μ (f .lowered)) + weighedFlips k μ cols fs
 
 -- "A clade is a group or a single taxon", of the taxa X.
 pub data Clade (X : ℕ) (gs : List Group) (Y : ℕ) : Type 0 where
