@@ -9,34 +9,38 @@ use native.Mathlib.Omega.{arith}
 use lib.Dec.{eqb, lit≤}
 use borrow.Author.Tests.{eq-eqb, ne-eqb}
 use Rattle.taxa.specs.Sum.{sum, inside}
-use Rattle.taxa.specs.Sets.{count}
-use Rattle.taxa.proofs.Counts.{count-le, count-∖-∩, count-none}
+use Rattle.taxa.specs.Sets.{mass}
+use Rattle.taxa.proofs.Masses.{mass-none, mass-∖-∩}
 use Rattle.taxa.proofs.Sums.{sum-next, sum-≡, sum-+}
 use Rattle.record.proofs.Steps.{either-way}
 use Rattle.matrix.specs.declared.Column.{Column}
-use Rattle.score.specs.Score.{ColumnScore, lowersAt, Counts, literalScore, columnScore, raisesOf, lowersOf}
+use Rattle.score.specs.Score.{ColumnScore, raisesAt, lowersAt, Counts, literalScore, columnScore, raisesOf, lowersOf, Light, columnMost}
 use Rattle.score.proofs.Nearest.{same-flips}
 
 -- ---- one column
 
-module _ (c : Column) (X : ℕ) where
-  pub without-ones : c .ones ≡ 0 → columnScore c X ≡ record { raises = 0; lowers = 0 }
+module _ (μ : ℕ → ℕ) (c : Column) (X : ℕ) where
+  pub without-ones : c .ones ≡ 0 → columnScore μ c X ≡ record { raises = 0; lowers = 0 }
   unfolding columnScore
   without-ones none = rw (eq-eqb (c .ones) 0 none)
 
-  pub with-ones : (c .ones ≡ 0 → ⊥) → columnScore c X ≡ literalScore c X
+  pub with-ones : (c .ones ≡ 0 → ⊥) → columnScore μ c X ≡ literalScore μ c X
   unfolding columnScore
   with-ones some = rw (ne-eqb (c .ones) 0 some)
 
-  -- At most 64 flips of a weight below 2^16.
-  pub column-small : c .weight < 65536 → (columnScore c X .raises ≤ 4194240) × (columnScore c X .lowers ≤ 4194240)
+  -- At most what its 0s, and its 1s, stand for.
+  pub flips-few : Light μ c → (raisesAt μ c X ≤ 127) × (lowersAt μ c X ≤ 127)
+  flips-few few = (omega (arith, mass-∖-∩ 64 μ (c .zeros) X, few .zeros-few), omega (arith, mass-∖-∩ 64 μ (c .ones) X, few .ones-few))
+
+  pub column-small : c .weight < 65536 → Light μ c → (columnScore μ c X .raises ≤ columnMost) × (columnScore μ c X .lowers ≤ columnMost)
   unfolding columnScore
-  column-small w =
-      let most : (x : ℕ) → c .weight * count 64 x ≤ 4194240 = λ x. omega (arith, mul-le-mul-left (c .weight) (count-le 64 x)) in
-      either-way (λ (s : ColumnScore). (s .raises ≤ 4194240) × (s .lowers ≤ 4194240)) (eqb (c .ones) 0) (lit≤ tt, lit≤ tt) (most _, most _)
+  column-small w few =
+      let most : (x : ℕ) → x ≤ 127 → c .weight * x ≤ columnMost = λ x l. omega (arith, mul-le-mul-left (c .weight) l) in
+      let (raised, lowered) = flips-few few in
+      either-way (λ (s : ColumnScore). (s .raises ≤ columnMost) × (s .lowers ≤ columnMost)) (eqb (c .ones) 0) (lit≤ tt, lit≤ tt) (most _ raised, most _ lowered)
 
   -- The raises of before: those of now and, without a 1, what was charged.
-  charged-before : literalScore c X .raises ≡ columnScore c X .raises + cond (eqb (c .ones) 0) (literalScore c X .raises) 0
+  charged-before : literalScore μ c X .raises ≡ columnScore μ c X .raises + cond (eqb (c .ones) 0) (literalScore μ c X .raises) 0
   charged-before =
       elim (ℕ-discrete (c .ones) 0) [
         | yes none ↦ rw (without-ones none, eq-eqb (c .ones) 0 none) (omega arith)
@@ -44,42 +48,42 @@ module _ (c : Column) (X : ℕ) where
       ]
 
   -- Where there is no 1, there is none to lower.
-  same-lowers : literalScore c X .lowers ≡ columnScore c X .lowers
+  same-lowers : literalScore μ c X .lowers ≡ columnScore μ c X .lowers
   same-lowers =
       elim (ℕ-discrete (c .ones) 0) [
         | yes none ↦
-            let nobody : lowersAt c X ≡ 0 = omega (arith, count-∖-∩ 64 (c .ones) X, ap (count 64) none, count-none 64) in
+            let nobody : lowersAt μ c X ≡ 0 = omega (arith, mass-∖-∩ 64 μ (c .ones) X, ap (mass 64 μ) none, mass-none 64 μ) in
             rw (without-ones none, nobody) (omega arith)
         | no some ↦ rw (with-ones some)
       ]
 
 -- Nodes that count give a column the same score; one without a 1 has the same at any two.
-pub same-score : (c : Column) {Nodes : ℕ → Type 0} {X Y : ℕ} → 0 < c .weight → ((c .ones ≡ 0 → ⊥) → Counts c Nodes X × Counts c Nodes Y) → columnScore c X ≡ columnScore c Y
-same-score c {X = X} {Y} w counts =
+pub same-score : (μ : ℕ → ℕ) (c : Column) {Nodes : ℕ → Type 0} {X Y : ℕ} → 0 < c .weight → ((c .ones ≡ 0 → ⊥) → Counts μ c Nodes X × Counts μ c Nodes Y) → columnScore μ c X ≡ columnScore μ c Y
+same-score μ c {X = X} {Y} w counts =
     elim (ℕ-discrete (c .ones) 0) [
-      | yes none ↦ without-ones c X none ∙ sym (without-ones c Y none)
+      | yes none ↦ without-ones μ c X none ∙ sym (without-ones μ c Y none)
       | no some ↦
-          let (up, down) = same-flips c w (counts some .0) (counts some .1) in
-          rw (with-ones c X some, with-ones c Y some, up, down)
+          let (up, down) = same-flips μ c w (counts some .0) (counts some .1) in
+          rw (with-ones μ c X some, with-ones μ c Y some, up, down)
     ]
 
 -- ---- the columns of a matrix
 
 -- One column more.
-module _ (column : ℕ → Column) (node : Column → ℕ) (m : ℕ) where
-  pub raises-next : raisesOf column node (m + 1) ≡ raisesOf column node m + columnScore (column m) (node (column m)) .raises
+module _ (μ : ℕ → ℕ) (column : ℕ → Column) (node : Column → ℕ) (m : ℕ) where
+  pub raises-next : raisesOf μ column node (m + 1) ≡ raisesOf μ column node m + columnScore μ (column m) (node (column m)) .raises
   unfolding raisesOf
   raises-next = sum-next m _
 
-  pub lowers-next : lowersOf column node (m + 1) ≡ lowersOf column node m + columnScore (column m) (node (column m)) .lowers
+  pub lowers-next : lowersOf μ column node (m + 1) ≡ lowersOf μ column node m + columnScore μ (column m) (node (column m)) .lowers
   unfolding lowersOf
   lowers-next = sum-next m _
 
 -- The sums of before, at any nodes.
-module _ (column : ℕ → Column) (node : ℕ → ℕ) (m : ℕ) where
-  pub raises-before : sum m (λ j. literalScore (column j) (node j) .raises)
-      ≡ sum m (λ j. columnScore (column j) (node j) .raises) + sum m (inside (λ j. eqb (column j .ones) 0) (λ j. literalScore (column j) (node j) .raises))
-  raises-before = sum-≡ m (λ j l. charged-before (column j) (node j)) ∙ sum-+ m _ _
+module _ (μ : ℕ → ℕ) (column : ℕ → Column) (node : ℕ → ℕ) (m : ℕ) where
+  pub raises-before : sum m (λ j. literalScore μ (column j) (node j) .raises)
+      ≡ sum m (λ j. columnScore μ (column j) (node j) .raises) + sum m (inside (λ j. eqb (column j .ones) 0) (λ j. literalScore μ (column j) (node j) .raises))
+  raises-before = sum-≡ m (λ j l. charged-before μ (column j) (node j)) ∙ sum-+ m _ _
 
-  pub lowers-before : sum m (λ j. literalScore (column j) (node j) .lowers) ≡ sum m (λ j. columnScore (column j) (node j) .lowers)
-  lowers-before = sum-≡ m (λ j l. same-lowers (column j) (node j))
+  pub lowers-before : sum m (λ j. literalScore μ (column j) (node j) .lowers) ≡ sum m (λ j. columnScore μ (column j) (node j) .lowers)
+  lowers-before = sum-≡ m (λ j l. same-lowers μ (column j) (node j))

@@ -1,5 +1,6 @@
 -- Laws of the score.
 pub mod Nearest
 pub mod Columns
+pub mod Light
 pub mod Scoring
 pub mod Places

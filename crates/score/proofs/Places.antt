@@ -15,7 +15,6 @@ use Rattle.record.specs.Records.{payload, left, nothingAfter}
 use Rattle.record.specs.declared.Cursor.{Cursor}
 use Rattle.record.specs.declared.Passed.{Passed}
 use Rattle.record.specs.declared.Passed.the-variants.{At, Refused}
-use Rattle.record.proofs.Numbers.{at-lt}
 use Rattle.record.proofs.Steps.{either-way}
 use Rattle.record.proofs.Places.{By, by-later, by-onward, by-record}
 use Rattle.matrix.specs.declared.Checked.{Checked}
@@ -31,9 +30,10 @@ use Rattle.answer.specs.Reading.{fileTests}
 use Rattle.answer.proofs.Files.{headOf, groupsOf, flipsOf, endOf, head-leads}
 use Rattle.score.specs.declared.Scored.{Scored}
 use Rattle.score.specs.declared.Scored.the-variants as scores
-use Rattle.score.specs.Score.{raisesOf, lowersOf}
-use Rattle.score.specs.Operation.{nodeIn, agreed, afterAnswer, afterMatrix, scored}
+use Rattle.score.specs.Score.{columnScore, raisesOf, lowersOf, columnMost}
+use Rattle.score.specs.Operation.{nodeIn, standFor, agreed, afterAnswer, afterMatrix, scored}
 use Rattle.score.proofs.Columns.{column-small}
+use Rattle.score.proofs.Light.{taken-column, taken-light}
 
 -- The score's numbers, and 0 where nothing is at fault.
 abbrev Few : ℕ → Type 0
@@ -129,22 +129,25 @@ Small (scores.Taken up down) = (up .0 < 2 ^ 31) × (down .0 < 2 ^ 31)
 Small (scores.Refused why) = (why .place ≤ 6660) × (why .number ≤ 15)
 
 module _ {matrix : List ℕ} (f : File matrix) (answer : List ℕ) where
-  taken-small : (n m : ℕ) → m ≤ 256 → Small (agreed matrix answer n m)
+  taken-small : {n m : ℕ} → checks.Taken n m ≡ checked matrix → Small (agreed matrix answer n m)
   unfolding agreed raisesOf lowersOf
-  taken-small n m l =
-      let weights : (j : ℕ) → columnIn matrix j .weight < 65536 = λ j. at-lt 2 (12 + 22 * j) f in
-      let up = sum-bound m 4194240 (λ j l. column-small (columnIn matrix j) (nodeIn answer (columnIn matrix j)) (weights j) .0) in
-      let down = sum-bound m 4194240 (λ j l. column-small (columnIn matrix j) (nodeIn answer (columnIn matrix j)) (weights j) .1) in
+  taken-small {n} {m} taken =
+      let μ = standFor matrix in
+      let few : m ≤ 256 = omega (arith, taken-columns f taken, taken-legal f taken .columns-fit) in
+      let Fits : ℕ → Type 0 = λ j. let s = columnScore μ (columnIn matrix j) (nodeIn μ answer (columnIn matrix j)) in (s .raises ≤ columnMost) × (s .lowers ≤ columnMost) in
+      let small : (j : ℕ) → j < m → Fits j = λ j l. column-small μ (columnIn matrix j) (nodeIn μ answer (columnIn matrix j)) (taken-column f taken j l .weight-fits) (taken-light f taken j l) in
+      let up = sum-bound m columnMost (λ j l. small j l .0) in
+      let down = sum-bound m columnMost (λ j l. small j l .1) in
       either-way Small (eqb (contentIn answer .n) n && eqb (contentIn answer .m) m) (omega (arith, up), omega (arith, down)) (lit≤ tt, lit≤ tt)
 
-  after : (n m : ℕ) → m ≤ 256 → (p : Passed) → By Few 6660 p → Small (afterAnswer matrix answer n m p)
-  after n m l (At here) b = taken-small n m l
-  after n m l (Refused why) b = b
+  after : {n m : ℕ} → checks.Taken n m ≡ checked matrix → (p : Passed) → By Few 6660 p → Small (afterAnswer matrix answer n m p)
+  after taken (At here) b = taken-small taken
+  after taken (Refused why) b = b
 
   pub score-small : Small (scored matrix answer)
   unfolding scored
   score-small = go (checked matrix) refl
     where
       go : (a : Checked) → a ≡ checked matrix → Small (afterMatrix matrix answer a)
-      go (checks.Taken n m) e = after n m (omega (arith, taken-columns f e, taken-legal f e .columns-fit)) (fileTests answer) (answer-by answer)
+      go (checks.Taken n m) e = after e (fileTests answer) (answer-by answer)
       go (checks.Refused why) e = let (near, some, small) = refusal-small matrix e in (omega arith, omega arith)

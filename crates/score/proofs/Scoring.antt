@@ -24,20 +24,20 @@ use Rattle.score.specs.declared.Lowers.{Lowers}
 use Rattle.score.specs.declared.Scored.{Scored}
 use Rattle.score.specs.declared.Scored.the-variants.{Taken, Refused}
 use Rattle.score.specs.Score.{leaf, nearestIn, nodeFor, raisesOf, lowersOf}
-use Rattle.score.specs.Operation.{nodeIn, agreed, scored, returned, Scores}
+use Rattle.score.specs.Operation.{nodeIn, standFor, agreed, scored, returned, Scores}
 
 -- ---- the groups in a value's places
 
 -- Clusters that are the same below k have the same node that counts.
-nearest-same : (c : Column) (f g : ℕ → ℕ) (k best : ℕ) → ((i : ℕ) → i < k → f i ≡ g i) → nearestIn c f k best ≡ nearestIn c g k best
+nearest-same : (μ : ℕ → ℕ) (c : Column) (f g : ℕ → ℕ) (k best : ℕ) → ((i : ℕ) → i < k → f i ≡ g i) → nearestIn μ c f k best ≡ nearestIn μ c g k best
 unfolding nearestIn
-nearest-same c f g zero best e = refl
-nearest-same c f g (suc k) best e = rw (nearest-same c f g k best (λ i l. e i (omega arith)), e k (omega arith))
+nearest-same μ c f g zero best e = refl
+nearest-same μ c f g (suc k) best e = rw (nearest-same μ c f g k best (λ i l. e i (omega arith)), e k (omega arith))
 
-padded-node : (file : List ℕ) (n k : ℕ) → nodeFor n (padded (taxaIn file k)) k ≡ nodeFor n (taxaIn file k) k
+padded-node : (μ : ℕ → ℕ) (file : List ℕ) (n k : ℕ) → nodeFor μ n (padded (taxaIn file k)) k ≡ nodeFor μ n (taxaIn file k) k
 unfolding nodeFor
-padded-node file n k i c =
-    nearest-same c (λ j. getD (padded (taxaIn file k)) j 0) (λ j. getD (taxaIn file k) j 0) k (nearestIn c leaf n (leaf 0)) (λ j l.
+padded-node μ file n k i c =
+    nearest-same μ c (λ j. getD (padded (taxaIn file k)) j 0) (λ j. getD (taxaIn file k) j 0) k (nearestIn μ c leaf n (leaf 0)) (λ j l.
     at-front (taxaIn file k) (replicate 63 0) j (omega (arith, length-taxa file k))) i
 
 -- The places of the value hold all groups.
@@ -48,8 +48,8 @@ groups-placed answer e l =
     let r : length zeros ≡ 63 = refl in
     rw e (omega (arith, length-over (taxaIn answer (groupCount answer)) 0 zeros (omega (arith, k, r)), r))
 
-same-node : (answer : List ℕ) (n : ℕ) {a : Answer} → a ≡ answerOf (contentIn answer) → a .n ≡ n → nodeFor n (a .taxa) (a .groups) ≡ nodeIn answer
-same-node answer n value e = rw (← e, value) (padded-node answer (contentIn answer .n) (groupCount answer))
+same-node : (μ : ℕ → ℕ) (answer : List ℕ) (n : ℕ) {a : Answer} → a ≡ answerOf (contentIn answer) → a .n ≡ n → nodeFor μ n (a .taxa) (a .groups) ≡ nodeIn μ answer
+same-node μ answer n value e = rw (← e, value) (padded-node μ answer (contentIn answer .n) (groupCount answer))
 
 -- ---- two files that were read
 
@@ -62,13 +62,14 @@ module _ (matrix answer : List ℕ) (n m : ℕ) {a : Answer} (value : a ≡ answ
   unfolding agreed
   other-columns e h = rw (eq-eqb (contentIn answer .n) n (rw value at e), ne-eqb (contentIn answer .m) m (rw value at h))
 
-  pub taken-row : {up : Raises} {down : Lowers} → a .n ≡ n → a .m ≡ m
-      → up .0 ≡ raisesOf (columnIn matrix) (nodeFor n (a .taxa) (a .groups)) m → down .0 ≡ lowersOf (columnIn matrix) (nodeFor n (a .taxa) (a .groups)) m
+  pub taken-row : {μ : ℕ → ℕ} {up : Raises} {down : Lowers} → μ ≡ standFor matrix → a .n ≡ n → a .m ≡ m
+      → up .0 ≡ raisesOf μ (columnIn matrix) (nodeFor μ n (a .taxa) (a .groups)) m → down .0 ≡ lowersOf μ (columnIn matrix) (nodeFor μ n (a .taxa) (a .groups)) m
       → Taken up down ≡ agreed matrix answer n m
   unfolding agreed
-  taken-row e e′ up-is down-is =
-      let up′ = up-is ∙ ap (λ (node : Column → ℕ). raisesOf (columnIn matrix) node m) (same-node answer n value e) in
-      let down′ = down-is ∙ ap (λ (node : Column → ℕ). lowersOf (columnIn matrix) node m) (same-node answer n value e) in
+  taken-row {μ} stand e e′ up-is down-is =
+      let node = same-node μ answer n value e in
+      let up′ = up-is ∙ ap (λ (f : Column → ℕ). raisesOf μ (columnIn matrix) f m) node ∙ ap (λ (ν : ℕ → ℕ). raisesOf ν (columnIn matrix) (nodeIn ν answer) m) stand in
+      let down′ = down-is ∙ ap (λ (f : Column → ℕ). lowersOf μ (columnIn matrix) f m) node ∙ ap (λ (ν : ℕ → ℕ). lowersOf ν (columnIn matrix) (nodeIn ν answer) m) stand in
       rw (eq-eqb (contentIn answer .n) n (rw value at e), eq-eqb (contentIn answer .m) m (rw value at e′)) (λ i. Taken (record { 0 = up′ i }) (record { 0 = down′ i }))
 
 -- ---- the operation

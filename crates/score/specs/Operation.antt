@@ -4,6 +4,7 @@ use mathlib.Core.Bool.{_&&_, cond}
 use mathlib.Core.List.{List}
 use Prim.Native.Nat.{ℕ}
 use lib.Dec.{eqb}
+use Rattle.taxa.specs.Sets.{multiplicity}
 use Rattle.record.specs.Records.{refused}
 use Rattle.record.specs.declared.Cursor.{Cursor}
 use Rattle.record.specs.declared.Passed.{Passed}
@@ -11,7 +12,7 @@ use Rattle.record.specs.declared.Passed.the-variants as passed
 use Rattle.matrix.specs.declared.Column.{Column}
 use Rattle.matrix.specs.declared.Checked.{Checked}
 use Rattle.matrix.specs.declared.Checked.the-variants as checks
-use Rattle.matrix.specs.Matrix.{columnIn}
+use Rattle.matrix.specs.Matrix.{multiplicitiesIn, columnIn}
 use Rattle.matrix.specs.Check.{checked}
 use Rattle.answer.specs.Content.{contentIn}
 use Rattle.answer.specs.Reading.{fileTests}
@@ -25,17 +26,21 @@ use Rattle.score.specs.Score.{Node, nodeFor, raisesOf, lowersOf}
 abbrev pub NodeIn : List ℕ → ℕ → Type 0
 NodeIn answer = let a = contentIn answer in Node (a .n) (a .taxa) (a .groups)
 
--- The one that counts for a column.
-abbrev pub nodeIn : List ℕ → Column → ℕ
-nodeIn answer = let a = contentIn answer in nodeFor (a .n) (a .taxa) (a .groups)
+-- The one that counts for a column, under the multiplicities μ.
+abbrev pub nodeIn : (ℕ → ℕ) → List ℕ → Column → ℕ
+nodeIn μ answer = let a = contentIn answer in nodeFor μ (a .n) (a .taxa) (a .groups)
+
+-- How many specimens each taxon of a matrix file stands for.
+abbrev pub standFor : List ℕ → ℕ → ℕ
+standFor matrix = multiplicity (multiplicitiesIn matrix)
 
 -- The raises of a matrix file's m columns: "raises and lowers, each times its weight".
 abbrev pub raisesIn : List ℕ → List ℕ → ℕ → Raises
-raisesIn matrix answer m = record { 0 = raisesOf (columnIn matrix) (nodeIn answer) m }
+raisesIn matrix answer m = let μ = standFor matrix in record { 0 = raisesOf μ (columnIn matrix) (nodeIn μ answer) m }
 
 -- The lowers of a matrix file's m columns.
 abbrev pub lowersIn : List ℕ → List ℕ → ℕ → Lowers
-lowersIn matrix answer m = record { 0 = lowersOf (columnIn matrix) (nodeIn answer) m }
+lowersIn matrix answer m = let μ = standFor matrix in record { 0 = lowersOf μ (columnIn matrix) (nodeIn μ answer) m }
 
 -- "Matrix and answer differ in n or m" (15, at 0), or else the score.
 unfoldable pub agreed : List ℕ → List ℕ → ℕ → ℕ → Scored

@@ -1,4 +1,4 @@
--- `score::distance` meets its contract: a weight below 2^16 times at most 128 fits.
+-- `score::distance` meets its contract: a weight below 2^16 times at most 16,256 fits.
 use borrow.Author.Needs.{needs}
 use native.Mathlib.Nat.{mul-le-mul-left}
 use native.Mathlib.Omega.{arith}
@@ -23,7 +23,7 @@ mul-result : tie.Need-mul-result
 mul-result c =
     let raises = c .before .before .before .before .raises-at in
     let lowers = c .before .before .before .lowers-at in
-    let few : raises .result .0 + lowers .result .0 ≤ 128 = omega arith in
+    let few : raises .result .0 + lowers .result .0 ≤ 16256 = omega arith in
     record { fits = omega (arith, mul-le-mul-left (c .before .before .before .before .before .args .it .weight) few) }
 
 returns : tie.Need-returns

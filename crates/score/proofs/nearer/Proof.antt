@@ -12,10 +12,10 @@ distance-requires-2 : tie.Need-distance-requires-2
 distance-requires-2 c κs = search needs
 
 returns : tie.Need-returns
-returns c = less _ _ _ (omega arith)
+returns c = less _ _ _ _ (omega arith)
 
 returns-2 : tie.Need-returns-2
-returns-2 c = more _ _ _ (omega arith) (omega arith)
+returns-2 c = more _ _ _ _ (omega arith) (omega arith)
 
 raises-at-requires : tie.Need-raises-at-requires
 raises-at-requires c κs = search needs
@@ -24,7 +24,7 @@ raises-at-requires-2 : tie.Need-raises-at-requires-2
 raises-at-requires-2 c κs = search needs
 
 returns-3 : tie.Need-returns-3
-returns-3 c = rw (c .before .before .before .raises-at .ensures .0, c .before .before .raises-at2 .ensures .0) (equal _ _ _ (omega arith))
+returns-3 c = rw (c .before .before .before .raises-at .ensures .0, c .before .before .raises-at2 .ensures .0) (equal _ _ _ _ (omega arith))
 
 pub nearer-spec : {M : Type 1} → statement M
 nearer-spec =

@@ -3,16 +3,17 @@ use borrow.Author.Needs.{needs}
 use native.Mathlib.Omega.{arith}
 use mathlib.Core.Path.{_≡_, refl}
 use Prim.Native.Nat.{_-_, _≤_}
+use Rattle.taxa.specs.Sets.{multiplicityIn}
 use Rattle.score.proofs.Nearest.{one-more}
 use Rattle.score.specs.Score.{nearestIn, leaf}
 use Rattle.score.proofs.nearest_leaf.Statement.{statement}
 use Rattle.score.proofs.nearest_leaf.Tie as tie
 
 abbrev Inv-loop : tie.InvT-loop
-Inv-loop it n best₀ i₀ best i = (i ≤ n) × (best ≡ nearestIn it leaf i (leaf 0))
+Inv-loop planes it n best₀ i₀ best i = (i ≤ n) × (best ≡ nearestIn (multiplicityIn planes) it leaf i (leaf 0))
 
 abbrev μ-loop : tie.MeasureT-loop
-μ-loop it n best₀ i₀ best i = n - i
+μ-loop planes it n best₀ i₀ best i = n - i
 
 loop-holds : tie.Need-loop-holds Inv-loop μ-loop
 unfolding nearestIn

@@ -4,16 +4,17 @@ use native.Mathlib.Omega.{arith}
 use mathlib.Core.Path.{_≡_, refl}
 use Prim.Native.Nat.{_-_, _≤_}
 use lib.ListN.{getD}
+use Rattle.taxa.specs.Sets.{multiplicityIn}
 use Rattle.score.proofs.Nearest.{one-more}
 use Rattle.score.specs.Score.{nearestIn}
 use Rattle.score.proofs.nearest_node.Statement.{statement}
 use Rattle.score.proofs.nearest_node.Tie as tie
 
 abbrev Inv-loop : tie.InvT-loop
-Inv-loop it groups k leaf best₀ i₀ best i = (i ≤ k) × (best ≡ nearestIn it (λ j. getD groups j 0) i leaf)
+Inv-loop planes it groups k leaf best₀ i₀ best i = (i ≤ k) × (best ≡ nearestIn (multiplicityIn planes) it (λ j. getD groups j 0) i leaf)
 
 abbrev μ-loop : tie.MeasureT-loop
-μ-loop it groups k leaf best₀ i₀ best i = k - i
+μ-loop planes it groups k leaf best₀ i₀ best i = k - i
 
 loop-holds : tie.Need-loop-holds Inv-loop μ-loop
 unfolding nearestIn

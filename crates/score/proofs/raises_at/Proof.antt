@@ -1,14 +1,18 @@
 -- `score::raises_at` meets its contract, by what it calls.
 use borrow.Author.Needs.{needs}
-use Rattle.taxa.proofs.Counts.{count-le}
+use mathlib.Core.Path.{ap, _∙_}
+use Rattle.taxa.specs.Sets.{mass}
 use Rattle.score.proofs.raises_at.Statement.{statement}
 use Rattle.score.proofs.raises_at.Tie as tie
 
-count-in-requires : tie.Need-count-in-requires
-count-in-requires c κs = search needs
+common-requires : tie.Need-common-requires
+common-requires c κs = search needs
+
+mass-in-requires : tie.Need-mass-in-requires
+mass-in-requires c κs = search needs
 
 returns : tie.Need-returns
-returns c = let e = c .count-in .ensures in (e, rw e (count-le 64 _))
+returns c = (c .mass-in .ensures .0 ∙ ap (mass 64 _) (c .before .common .ensures), c .mass-in .ensures .1)
 
 pub raises-at-spec : {M : Type 1} → statement M
-raises-at-spec = tie.close (tie.spec count-in-requires returns)
+raises-at-spec = tie.close (tie.spec common-requires mass-in-requires returns)

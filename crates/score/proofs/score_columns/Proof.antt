@@ -1,22 +1,24 @@
--- `score::score_columns` meets its contract. The invariant: the sums are those of the columns passed, at most 4,194,240 each.
+-- `score::score_columns` meets its contract. The invariant: the sums are those of the columns passed, at most `columnMost` each.
 use borrow.Author.Needs.{needs}
 use native.Mathlib.Omega.{arith}
 use mathlib.Core.Path.{_≡_, refl}
 use Prim.Native.Nat.{_-_, _*_, _≤_}
 use Rattle.taxa.specs.Sum.{sum}
+use Rattle.taxa.specs.Sets.{multiplicityIn}
 use Rattle.matrix.specs.Matrix.{columnIn}
-use Rattle.score.specs.Score.{nodeFor, raisesOf, lowersOf}
+use Rattle.score.specs.Score.{nodeFor, raisesOf, lowersOf, columnMost}
 use Rattle.score.proofs.Columns.{raises-next, lowers-next}
 use Rattle.score.proofs.score_columns.Statement.{statement}
 use Rattle.score.proofs.score_columns.Tie as tie
 
 abbrev Inv-loop : tie.InvT-loop
-Inv-loop file m n groups k sum₀ c₀ sum c =
-    (c ≤ m) × (sum .raises .0 ≡ raisesOf (columnIn file) (nodeFor n groups k) c) × (sum .lowers .0 ≡ lowersOf (columnIn file) (nodeFor n groups k) c)
-    × (sum .raises .0 ≤ c * 4194240) × (sum .lowers .0 ≤ c * 4194240)
+Inv-loop planes file m n groups k sum₀ c₀ sum c =
+    let μ = multiplicityIn planes in
+    (c ≤ m) × (sum .raises .0 ≡ raisesOf μ (columnIn file) (nodeFor μ n groups k) c) × (sum .lowers .0 ≡ lowersOf μ (columnIn file) (nodeFor μ n groups k) c)
+    × (sum .raises .0 ≤ c * columnMost) × (sum .lowers .0 ≤ c * columnMost)
 
 abbrev μ-loop : tie.MeasureT-loop
-μ-loop file m n groups k sum₀ c₀ sum c = m - c
+μ-loop planes file m n groups k sum₀ c₀ sum c = m - c
 
 loop-holds : tie.Need-loop-holds Inv-loop μ-loop
 unfolding raisesOf lowersOf sum
@@ -29,7 +31,9 @@ node-for-requires : tie.Need-node-for-requires Inv-loop μ-loop
 node-for-requires c κs = search needs
 
 with-column-requires : tie.Need-with-column-requires Inv-loop μ-loop
-with-column-requires c κs = omega arith
+with-column-requires c κs =
+    let at = c .before .before .before in
+    (omega arith, omega arith, rw (c .before .column-in .ensures) (at .before .before .before .pre .4 (at .loop .c) (omega arith)))
 
 add-c : tie.Need-add-c Inv-loop μ-loop
 add-c c = search needs

@@ -4,6 +4,7 @@ use native.Mathlib.Omega.{arith}
 use Rattle.record.specs.Bytes.{File}
 use Rattle.answer.proofs.Outcomes.{Laid, laid}
 use Rattle.matrix.proofs.Taken.{taken-legal, taken-length, taken-taxa, taken-columns}
+use Rattle.score.proofs.Light.{taken-light}
 use Rattle.score.proofs.Scoring.{groups-placed, other-taxa, other-columns, taken-row}
 use Rattle.score.proofs.score_read.Statement.{statement}
 use Rattle.score.proofs.score_read.Tie as tie
@@ -24,6 +25,9 @@ returns c = other-taxa _ _ _ _ (c .before .before .answer-in .ensures) (omega ar
 returns-2 : tie.Need-returns-2
 returns-2 c = other-columns _ _ _ _ (c .before .before .before .before .answer-in .ensures) (omega arith) (omega arith)
 
+planes-in-requires : tie.Need-planes-in-requires
+planes-in-requires c κs = ?
+
 slice-aggregate-score-columns : tie.Need-slice-aggregate-score-columns
 slice-aggregate-score-columns c = search needs
 
@@ -32,19 +36,21 @@ cast-score-columns c = search needs
 
 score-columns-requires : tie.Need-score-columns-requires
 score-columns-requires c κs =
-    let value = c .before .before .before .before .before .before .before in
+    let loaded = c .before .before .before .before in
+    let value = loaded .before .before .before .before .before in
     let at = value .before .before in
     let f = bytes at in
     let taken = at .before .pre .taken in
     let l = lies (at .before) in
-    (omega (arith, taken-columns f taken, taken-legal f taken .columns-fit), omega (arith, taken-length f taken), omega (arith, taken-taxa f taken, taken-legal f taken .taxa-fit), groups-placed _ (value .answer-in .ensures) (omega (arith, l .head-kept .few, l .head-kept .fewer)))
+    (omega (arith, taken-columns f taken, taken-legal f taken .columns-fit), omega (arith, taken-length f taken), omega (arith, taken-taxa f taken, taken-legal f taken .taxa-fit), groups-placed _ (value .answer-in .ensures) (omega (arith, l .head-kept .few, l .head-kept .fewer)), rw (loaded .planes-in .ensures) (taken-light f taken))
 
 returns-3 : tie.Need-returns-3
 returns-3 c =
     let made = c .before .before in
-    let columns = made .before .before .before .before in
+    let loaded = made .before .before .before .before .before in
+    let columns = loaded .before in
     let taxa = columns .before .before in
-    taken-row _ _ _ _ (taxa .before .before .answer-in .ensures) (omega (arith, taxa .if1 .left)) (omega (arith, columns .if2 .left)) (made .score-columns .ensures .0 .0) (made .score-columns .ensures .1 .0)
+    taken-row _ _ _ _ (taxa .before .before .answer-in .ensures) (loaded .planes-in .ensures) (omega (arith, taxa .if1 .left)) (omega (arith, columns .if2 .left)) (made .score-columns .ensures .0 .0) (made .score-columns .ensures .1 .0)
 
 pub score-read-spec : {M : Type 1} → statement M
 score-read-spec =
@@ -53,6 +59,7 @@ score-read-spec =
     answer-in-requires
     returns
     returns-2
+    planes-in-requires
     slice-aggregate-score-columns
     cast-score-columns
     score-columns-requires

@@ -1,4 +1,4 @@
--- `score::weighed` meets its contract: a weight below 2^16 times at most 64 fits.
+-- `score::weighed` meets its contract: a weight below 2^16 times at most 127 fits.
 use mathlib.Core.Path.{refl}
 use native.Mathlib.Nat.{mul-le-mul-left}
 use native.Mathlib.Omega.{arith}

@@ -3,32 +3,34 @@ use borrow.Author.Needs.{needs}
 use native.Mathlib.Omega.{arith}
 use mathlib.Core.Path.{ap}
 use Prim.Native.Nat.{_*_}
-use Rattle.score.proofs.Columns.{without-ones, with-ones}
+use Rattle.score.proofs.Columns.{without-ones, with-ones, flips-few}
 use Rattle.score.proofs.with_column.Statement.{statement}
 use Rattle.score.proofs.with_column.Tie as tie
 
 returns : tie.Need-returns
 returns c =
     let given = c .before .before .args in
-    rw (without-ones (given .it) (given .node) (omega arith)) ((omega arith, omega arith), (omega arith, omega arith))
+    rw (without-ones _ (given .it) (given .node) (omega arith)) ((omega arith, omega arith), (omega arith, omega arith))
 
 raises-at-requires : tie.Need-raises-at-requires
 raises-at-requires c κs = search needs
 
 weighed-requires : tie.Need-weighed-requires
-weighed-requires c κs = search needs
+weighed-requires c κs = let given = c .before .before .before .before .before in omega (arith, flips-few _ _ (given .args .node) (given .pre .2))
 
-add-t9 : tie.Need-add-t9
-add-t9 c = search needs
+add-t10 : tie.Need-add-t10
+add-t10 c = search needs
 
 lowers-at-requires : tie.Need-lowers-at-requires
 lowers-at-requires c κs = search needs
 
 weighed-requires-2 : tie.Need-weighed-requires-2
-weighed-requires-2 c κs = search needs
+weighed-requires-2 c κs =
+    let given = c .before .before .before .before .before .before .before .before in
+    omega (arith, flips-few _ _ (given .args .node) (given .pre .2))
 
-add-t13 : tie.Need-add-t13
-add-t13 c = search needs
+add-t14 : tie.Need-add-t14
+add-t14 c = search needs
 
 returns-2 : tie.Need-returns-2
 returns-2 c =
@@ -36,7 +38,7 @@ returns-2 c =
     let given = raised .before .before .before .before .before .before .args in
     let up = ap (_*_ (given .it .weight)) (raised .before .raises-at .ensures .0) in
     let down = ap (_*_ (given .it .weight)) (c .before .before .lowers-at .ensures .0) in
-    rw (with-ones (given .it) (given .node) (omega arith)) ((omega (arith, raised .weighed .ensures, up), omega (arith, raised .weighed .ensures)), (omega (arith, c .before .weighed2 .ensures, down), omega (arith, c .before .weighed2 .ensures)))
+    rw (with-ones _ (given .it) (given .node) (omega arith)) ((omega (arith, raised .weighed .ensures, up), omega (arith, raised .weighed .ensures)), (omega (arith, c .before .weighed2 .ensures, down), omega (arith, c .before .weighed2 .ensures)))
 
 pub with-column-spec : {M : Type 1} → statement M
 with-column-spec =
@@ -45,8 +47,8 @@ with-column-spec =
     returns
     raises-at-requires
     weighed-requires
-    add-t9
+    add-t10
     lowers-at-requires
     weighed-requires-2
-    add-t13
+    add-t14
     returns-2)
