@@ -1,7 +1,9 @@
 -- The score column by column. One without a 1 scores nothing (`without-ones`), any other what it scored before document 02's C-12 (`with-ones`). So over
 -- a matrix the lowers are those of before, and the raises are less by just what columns without a 1 were charged (`lowers-before`, `raises-before`).
-use mathlib.Core.Path.{_≡_, sym, ap, _∙_}
+-- Without multiplicities the flips are counted (`flips-absent`).
+use mathlib.Core.Path.{_≡_, refl, sym, ap, _∙_}
 use mathlib.Core.Bool.{cond}
+use mathlib.Core.List.{[]}
 use Prim.Native.Nat.{ℕ, _+_, _*_, _≤_, _<_}
 use native.Mathlib.Nat.{mul-le-mul-left}
 use native.Mathlib.Decide.{ℕ-discrete}
@@ -9,7 +11,7 @@ use native.Mathlib.Omega.{arith}
 use lib.Dec.{eqb, lit≤}
 use borrow.Author.Tests.{eq-eqb, ne-eqb}
 use Rattle.taxa.specs.Sum.{sum, inside}
-use Rattle.taxa.specs.Sets.{mass}
+use Rattle.taxa.specs.Sets.{_∩_, _∖_, mass, count, multiplicity}
 use Rattle.taxa.proofs.Masses.{mass-none, mass-∖-∩}
 use Rattle.taxa.proofs.Sums.{sum-next, sum-≡, sum-+}
 use Rattle.record.proofs.Steps.{either-way}
@@ -56,6 +58,11 @@ module _ (μ : ℕ → ℕ) (c : Column) (X : ℕ) where
             rw (without-ones none, nobody) (omega arith)
         | no some ↦ rw (with-ones some)
       ]
+
+-- Without a record of multiplicities the flips are counted, as before document 02's C-14.
+pub flips-absent : (c : Column) (X : ℕ) → (raisesAt (multiplicity []) c X ≡ count 64 (c .zeros ∩ X)) × (lowersAt (multiplicity []) c X ≡ count 64 (c .ones ∖ X))
+unfolding multiplicity count
+flips-absent c X = (refl, refl)
 
 -- Nodes that count give a column the same score; one without a 1 has the same at any two.
 pub same-score : (μ : ℕ → ℕ) (c : Column) {Nodes : ℕ → Type 0} {X Y : ℕ} → 0 < c .weight → ((c .ones ≡ 0 → ⊥) → Counts μ c Nodes X × Counts μ c Nodes Y) → columnScore μ c X ≡ columnScore μ c Y

@@ -126,7 +126,7 @@ module _ (file : List ℕ) where
 -- What fits the bits that C gets.
 abbrev pub Small : Scored → Type 0
 Small (scores.Taken up down) = (up .0 < 2 ^ 31) × (down .0 < 2 ^ 31)
-Small (scores.Refused why) = (why .place ≤ 6660) × (why .number ≤ 15)
+Small (scores.Refused why) = (why .place ≤ 6660) × (why .number ≤ 21)
 
 module _ {matrix : List ℕ} (f : File matrix) (answer : List ℕ) where
   taken-small : {n m : ℕ} → checks.Taken n m ≡ checked matrix → Small (agreed matrix answer n m)
@@ -142,7 +142,7 @@ module _ {matrix : List ℕ} (f : File matrix) (answer : List ℕ) where
 
   after : {n m : ℕ} → checks.Taken n m ≡ checked matrix → (p : Passed) → By Few 6660 p → Small (afterAnswer matrix answer n m p)
   after taken (At here) b = taken-small taken
-  after taken (Refused why) b = b
+  after taken (Refused why) (near, few) = (near, omega arith)
 
   pub score-small : Small (scored matrix answer)
   unfolding scored
