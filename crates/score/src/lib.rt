@@ -63,7 +63,11 @@ fn nearer(planes: &[u64; 8], it: Column, node: u64, other: u64) -> bool
 fn nearest_of(planes: &[u64; 8], it: Column, node: u64, best: u64) -> u64
     ensures { λ r. ⌜ r ≡ score.nearest (multiplicityIn (now (planes .entry))) it node best ⌝ }
 {
-    if nearer(planes, it, node, best) { node } else { best }
+    if nearer(planes, it, node, best) {
+        node
+    } else {
+        best
+    }
 }
 
 // The leaf that counts, of the first n taxa.
@@ -184,7 +188,14 @@ fn score_read(matrix: &[u8], answer: &[u8], n: u16, m: u16) -> Scored
     }
     let planes = matrix::planes_in(matrix);
     let groups = value.taxa;
-    let sum = score_columns(&planes, matrix, m as usize, n as u32, &groups, value.groups as usize);
+    let sum = score_columns(
+        &planes,
+        matrix,
+        m as usize,
+        n as u32,
+        &groups,
+        value.groups as usize,
+    );
     let raises = sum.raises;
     let lowers = sum.lowers;
     Scored::Taken(raises, lowers)
