@@ -150,4 +150,4 @@ module _ {matrix : List ℕ} (f : File matrix) (answer : List ℕ) where
     where
       go : (a : Checked) → a ≡ checked matrix → Small (afterMatrix matrix answer a)
       go (checks.Taken n m) e = after e (fileTests answer) (answer-by answer)
-      go (checks.Refused why) e = let (near, some, small) = refusal-small matrix e in (omega arith, omega arith)
+      go (checks.Refused why) e = let (near, some, small, other) = refusal-small matrix e in (omega arith, small)

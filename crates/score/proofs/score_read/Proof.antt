@@ -3,7 +3,7 @@ use borrow.Author.Needs.{needs}
 use native.Mathlib.Omega.{arith}
 use Rattle.record.specs.Bytes.{File}
 use Rattle.answer.proofs.Outcomes.{Laid, laid}
-use Rattle.matrix.proofs.Taken.{taken-legal, taken-length, taken-taxa, taken-columns}
+use Rattle.matrix.proofs.Taken.{taken-legal, taken-length, taken-taxa, taken-columns, taken-multiplied}
 use Rattle.score.proofs.Light.{taken-light}
 use Rattle.score.proofs.Scoring.{groups-placed, other-taxa, other-columns, taken-row}
 use Rattle.score.proofs.score_read.Statement.{statement}
@@ -26,7 +26,7 @@ returns-2 : tie.Need-returns-2
 returns-2 c = other-columns _ _ _ _ (c .before .before .before .before .answer-in .ensures) (omega arith) (omega arith)
 
 planes-in-requires : tie.Need-planes-in-requires
-planes-in-requires c κs = ?
+planes-in-requires c κs = let at = c .before .before .before .before .before .before in taken-multiplied (bytes at) (at .before .pre .taken)
 
 slice-aggregate-score-columns : tie.Need-slice-aggregate-score-columns
 slice-aggregate-score-columns c = search needs
