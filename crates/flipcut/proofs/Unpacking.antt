@@ -72,7 +72,7 @@ check-unpacks {file} f = go (checked file) refl
     go (Taken n m) e =
         let fits = taken-legal f e in
         taken-unpacks n m (omega (arith, fits .taxa-fit, taken-taxa f e)) (omega (arith, fits .columns-fit, taken-columns f e))
-    go (Refused why) e = let (near, some, small) = refusal-small file e in refusal-unpacks why (omega arith) (omega arith)
+    go (Refused why) e = let (near, some, small, other) = refusal-small file e in refusal-unpacks why (omega arith) (omega arith)
 
 -- And those of every score.
 pub score-unpacks : {matrix : List ℕ} (answer : List ℕ) → File matrix → unpackedScore (packedScore (scored matrix answer)) ≡ scoreNumbers matrix answer
