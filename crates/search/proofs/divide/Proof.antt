@@ -1,17 +1,17 @@
 -- `search::divide` meets its contract: the taxon whose flow runs last is the first that is parted for the least.
 use borrow.Author.Needs.{needs}
 use native.Mathlib.Omega.{arith}
-use mathlib.Core.Path.{_≡_, sym, ap, _∙_}
+use mathlib.Core.Path.{_≡_}
 use mathlib.Core.List.{List}
 use Prim.Native.Nat.{ℕ, _<_, _*_, _^_}
 use lib.Pow.{pow-lt}
 use Rattle.taxa.specs.Sets.{low}
 use Rattle.taxa.proofs.Counts.{count-pos}
-use Rattle.taxa.proofs.Members.{below, low-width}
+use Rattle.taxa.proofs.Members.{below}
 use Rattle.search.specs.Workspace.{Kept}
 use Rattle.search.specs.Network.{Net, Spare, Lent}
 use Rattle.search.proofs.Workspace.{cleared-kept, kept-then}
-use Rattle.search.proofs.Group.{pow-off, parted-off, net, stands, divided, divided-free}
+use Rattle.search.proofs.Group.{pow-off, source-is, parted-off, net, stands, divided, divided-free}
 use Rattle.search.proofs.divide.Statement.{statement}
 use Rattle.search.proofs.divide.Tie as tie
 
@@ -31,7 +31,7 @@ connected c = c .before .before .before .before .before .before .before .before 
 is-low : (c : tie.After-single) → c .single .result ≡ 2 ^ low (begun c .args .n) (begun c .args .group)
 is-low c =
     let g = begun c .pre .0 in
-    c .single .ensures ∙ ap (λ (x : ℕ). 2 ^ x) (c .before .lowest .ensures .0 ∙ sym (low-width (g .taxa) (count-pos (begun c .args .n) (omega (arith, g .two))) (g .group)))
+    source-is (begun c .args .n) (g .taxa) (g .group) (g .two) (c .before .lowest .ensures .0) (c .single .ensures)
 
 fits : (c : tie.After-single) → c .single .result < 2 ^ begun c .args .n
 fits c = omega (arith, c .single .ensures, pow-lt (below (begun c .args .n) (begun c .pre .0 .group) (c .before .lowest .ensures .2)))
@@ -39,16 +39,16 @@ fits c = omega (arith, c .single .ensures, pow-lt (below (begun c .args .n) (beg
 network : (c : tie.After-single) →
     let a = begun c .args in
     let made = c .before .before .network-of .last in
-    Net (a .weights .now) (made .1 .1 .1 .1 .1 .0) (made .1 .1 .1 .1 .1 .1 .0) (a .n) (a .m)
+    Net (a .weights .now) (a .planes .now) (made .1 .1 .1 .1 .1 .1 .0) (made .1 .1 .1 .1 .1 .1 .1 .0) (a .n) (a .m)
 network c =
     let made = c .before .before .network-of .ensures in
     net (begun c .pre .0) (made .0) (made .1) (λ k b. omega (arith, c .before .before .before .before .before .before .before .shared-slice-known .given k))
 
 -- The lent lists, with room as before.
-lent : (c : tie.After-single) {U Y : List ℕ} → Spare U Y → let made = c .before .before .network-of .last in Lent (made .1 .1 .1 .1 .1 .0) (made .1 .1 .1 .1 .1 .1 .0) U Y
+lent : (c : tie.After-single) {U Y : List ℕ} → Spare U Y → let made = c .before .before .network-of .last in Lent (made .1 .1 .1 .1 .1 .1 .0) (made .1 .1 .1 .1 .1 .1 .1 .0) U Y
 lent c s = let made = c .before .before .network-of .ensures in record { joins = made .0 .long; limits = made .1 .long; spare = s }
 
-emptied : (c : tie.After-connected) → let a = begun (sourced c) .args in Kept (a .n * a .m) (a .ws .now) (c .connected .last .1 .1 .1 .1 .1 .0)
+emptied : (c : tie.After-connected) → let a = begun (sourced c) .args in Kept (a .n * a .m) (a .ws .now) (c .connected .last .1 .1 .1 .1 .1 .1 .0)
 emptied c = let start = begun (sourced c) in cleared-kept (start .args .ws .now) (c .connected .ensures .1) (start .pre .1)
 
 -- ---- what the calls ask for
@@ -67,7 +67,7 @@ cheapest-requires c κs =
     let met = c .before .before .before .before .before .before .before .before in
     let l = sourced met in
     let p = begun l .pre in
-    (network l, omega (arith, p .1, emptied met .long), p .0 .group, p .0 .two, is-low l, met .connected .ensures .2)
+    (network l, omega (arith, p .1, emptied met .long), p .0 .group, p .0 .two, met .connected .ensures .2)
 
 largest-requires : tie.Need-largest-requires
 largest-requires c κs =
