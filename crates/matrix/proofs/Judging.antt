@@ -17,7 +17,7 @@ use Rattle.record.specs.declared.Passed.the-variants.{At, Refused}
 use Rattle.matrix.specs.declared.Column.{Column}
 use Rattle.matrix.specs.declared.Checked.the-variants.{Taken}
 use Rattle.matrix.specs.declared.Checked.the-variants as checks
-use Rattle.matrix.specs.Check.{headJudged, headPassed, columnJudged, columnPassed, columnsPassed, endPassed, filePassed, checked}
+use Rattle.matrix.specs.Check.{headJudged, headPassed, multiplicitiesPassed, columnJudged, columnPassed, columnsPassed, endPassed, filePassed, checked}
 
 module _ (n m : ℕ) (next : Cursor) where
   pub no-taxa : n ≡ 0 → Refused (refused 3 0) ≡ headJudged n m next
@@ -73,15 +73,20 @@ module _ (file : List ℕ) where
   unfolding checked filePassed
   head-refused h = rw h
 
-  module _ {first : Cursor} (h : headPassed file ≡ At first) where
-    pub columns-refused : {why : Refusal} → columnsRest first ≡ Refused why → checks.Refused why ≡ checked file
+  module _ {second : Cursor} (h : headPassed file ≡ At second) where
+    pub multiplicities-refused : {why : Refusal} → multiplicitiesPassed file (numberAt 2 file 4) second ≡ Refused why → checks.Refused why ≡ checked file
     unfolding checked filePassed
-    columns-refused k = rw (h, k)
+    multiplicities-refused k = rw (h, k)
 
-    pub end-refused : {end : Cursor} {why : Refusal} → columnsRest first ≡ At end → endPassed file end ≡ Refused why → checks.Refused why ≡ checked file
-    unfolding checked filePassed
-    end-refused k e = rw (h, k, e)
+    module _ {first : Cursor} (k : multiplicitiesPassed file (numberAt 2 file 4) second ≡ At first) where
+      pub columns-refused : {why : Refusal} → columnsRest first ≡ Refused why → checks.Refused why ≡ checked file
+      unfolding checked filePassed
+      columns-refused l = rw (h, k, l)
 
-    pub all-passed : {end last : Cursor} → columnsRest first ≡ At end → endPassed file end ≡ At last → Taken (numberAt 2 file 4) (numberAt 2 file 6) ≡ checked file
-    unfolding checked filePassed
-    all-passed k e = rw (h, k, e)
+      pub end-refused : {end : Cursor} {why : Refusal} → columnsRest first ≡ At end → endPassed file end ≡ Refused why → checks.Refused why ≡ checked file
+      unfolding checked filePassed
+      end-refused l e = rw (h, k, l, e)
+
+      pub all-passed : {end last : Cursor} → columnsRest first ≡ At end → endPassed file end ≡ At last → Taken (numberAt 2 file 4) (numberAt 2 file 6) ≡ checked file
+      unfolding checked filePassed
+      all-passed l e = rw (h, k, l, e)

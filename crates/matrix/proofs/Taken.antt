@@ -1,11 +1,13 @@
 -- A file that the check takes is the file of the matrix in it (`taken-is-file`), that matrix is legal (`taken-legal`), and so two files that are taken
 -- and hold the same matrix are the same bytes (`same-matrix-same-file`).
 use mathlib.Core.Path.{_≡_, refl, sym, ap, _∙_, subst}
-use mathlib.Core.List.{List, [], _++_, append-assoc, append-nil}
-use Prim.Native.Nat.{ℕ, zero, suc, _+_, _*_, _≤_}
+use mathlib.Core.Bool.{Bool, true, false}
+use mathlib.Core.List.{List, [], _∷_, _++_, append-assoc, append-nil}
+use Prim.Native.Nat.{ℕ, zero, suc, _+_, _*_, _≤_, _<_}
 use native.Mathlib.Nat.{add-zero, mul-zero}
 use native.Mathlib.Omega.{arith}
-use lib.ListN.{length, drop, drop-of-length-le}
+use lib.ListN.{length, getD, take, drop, drop-of-length-le, take-append-drop}
+use lib.Seq.{drop-drop}
 use borrow.Author.Tests.{ltb-false}
 use lib.Dec.{ltb}
 use Rattle.taxa.specs.Sets.{all}
@@ -19,9 +21,11 @@ use Rattle.record.proofs.Numbers.{at-lt, read-then}
 use Rattle.record.proofs.Steps.{Held, held, record-bytes}
 use Rattle.record.proofs.Passing.{unless, through-step, through}
 use Rattle.matrix.specs.declared.Checked.the-variants.{Taken}
-use Rattle.matrix.specs.Matrix.{Legal, LegalColumn, LegalColumns, none, one, headBytes, columnBytes, columnsBytes, endBytes, fileOf, columnAt, columnsFrom, matrixOf}
-use Rattle.matrix.specs.Check.{headPassed, columnPassed, columnsPassed, endPassed, filePassed, answered, checked}
-use Rattle.matrix.proofs.Passing.{Head, head, Passing, passing}
+use Rattle.matrix.specs.declared.Column.{Column}
+use Rattle.matrix.specs.Matrix.{Legal, LegalMultiplicities, absent, given, LegalColumn, LegalColumns, none, one, headBytes, multiplicityBytes, columnBytes, columnsBytes, endBytes, fileOf, hasMultiplicities, multiplicitiesIn, Multiplied, columnsAt, columnAt, columnIn, columnsFrom, matrixOf}
+use Rattle.matrix.specs.Check.{headPassed, multiplicitiesPassed, columnPassed, columnsPassed, endPassed, filePassed, answered, checked}
+use Rattle.matrix.proofs.Passing.{Head, head, There, there, not-there, Passing, passing}
+use Rattle.matrix.proofs.Multiplying.{multiplicities-there, columns-there, multiplicities-none, columns-none, before-columns, given-bytes, legal-fit}
 
 module _ {file : List ℕ} (f : File file) where
   -- ---- the records that were passed stand in the file
@@ -43,6 +47,42 @@ module _ {file : List ℕ} (f : File file) where
 
   end-stands : {at b : ℕ} {next : Cursor} → Held file at (recordOf records.matrixEnd) b next → drop at file ≡ endBytes ++ drop b file
   end-stands h = record-bytes [] _ f h refl
+
+  -- ---- the multiplicities
+
+  abbrev taxaCount : ℕ
+  taxaCount = numberAt 2 file 4
+
+  abbrev columnCount : ℕ
+  columnCount = numberAt 2 file 6
+
+  -- What they say of the file from the head on, where they are there and where they are not.
+  record Multiplying (next : Cursor) : Type 0 where
+    moves : next .at ≡ columnsAt file
+    stand : drop 8 file ≡ multiplicityBytes (multiplicitiesIn file) ++ drop (columnsAt file) file
+    legal : LegalMultiplicities taxaCount (multiplicitiesIn file)
+
+  with-them : {next : Cursor} → 0 < taxaCount → hasMultiplicities file ≡ true → There file taxaCount 8 next → Multiplying next
+  with-them some is t =
+      let ms = take taxaCount (drop 12 file) in
+      let split : drop 12 file ≡ ms ++ drop (12 + taxaCount) file = sym (take-append-drop taxaCount (drop 12 file)) ∙ ap (_++_ ms) (drop-drop taxaCount 12 file) in
+      record {
+        moves = t .stands .moves ∙ sym (columns-there file is);
+        stand = rw (multiplicities-there file is, columns-there file is, given-bytes ms (t .merging .one-each) some) (record-bytes _ _ f (t .stands) split);
+        legal = rw (multiplicities-there file is) (given (t .merging));
+      }
+
+  without-them : {next : Cursor} → hasMultiplicities file ≡ false → next .at ≡ 8 → Multiplying next
+  unfolding multiplicityBytes
+  without-them is e =
+      record { moves = e ∙ sym (columns-none file is); stand = rw (multiplicities-none file is, columns-none file is); legal = rw (multiplicities-none file is) absent }
+
+  multiplicities : {here next : Cursor} → Head file here → At next ≡ multiplicitiesPassed file taxaCount here → Multiplying next
+  multiplicities {here} {next} h e = go (hasMultiplicities file) refl
+    where
+      go : (b : Bool) → hasMultiplicities file ≡ b → Multiplying next
+      go true is = with-them (h .some) is (subst (λ (at : ℕ). There file taxaCount at next) (h .stands .moves) (there file taxaCount here is e))
+      go false is = without-them is (ap (λ (c : Cursor). c .at) (sym (not-there file taxaCount here is e)) ∙ h .stands .moves)
 
   -- ---- the columns
 
@@ -98,25 +138,23 @@ module _ {file : List ℕ} (f : File file) where
 
   -- ---- the whole file
 
-  abbrev taxaCount : ℕ
-  taxaCount = numberAt 2 file 4
-
-  abbrev columnCount : ℕ
-  columnCount = numberAt 2 file 6
-
   -- What a file that is taken says of itself.
   record Readings : Type 0 where
+    second : Cursor
     first : Cursor
     end : Cursor
-    head-read : Head file first
-    columns-read : Columns taxaCount columnCount 8 end
-    end-read : End (8 + 22 * columnCount)
+    head-read : Head file second
+    multiplicities-read : Multiplying first
+    columns-read : Columns taxaCount columnCount (columnsAt file) end
+    end-read : End (columnsAt file + 22 * columnCount)
 
-  gather : {first end last : Cursor} → At first ≡ headPassed file → At end ≡ columnsPassed file (all taxaCount) columnCount first → At last ≡ endPassed file end → Readings
-  gather {first} {end} h c e =
+  gather : {second first end last : Cursor} → At second ≡ headPassed file → At first ≡ multiplicitiesPassed file taxaCount second
+      → At end ≡ columnsPassed file (all taxaCount) columnCount first → At last ≡ endPassed file end → Readings
+  gather {second} {first} {end} h m c e =
       let hd = head file h in
-      let cols = subst (λ (at : ℕ). Columns taxaCount columnCount at end) (hd .stands .moves) (columns taxaCount columnCount first c) in
-      record { first = first; end = end; head-read = hd; columns-read = cols; end-read = rw (cols .moves) at (ended end e) }
+      let ms = multiplicities hd m in
+      let cols = subst (λ (at : ℕ). Columns taxaCount columnCount at end) (ms .moves) (columns taxaCount columnCount first c) in
+      record { second = second; first = first; end = end; head-read = hd; multiplicities-read = ms; columns-read = cols; end-read = rw (cols .moves) at (ended end e) }
 
   all-read : {n m : ℕ} (p : Passed) → Taken n m ≡ answered taxaCount columnCount p → (last : Cursor) × (At last ≡ p) × (taxaCount ≡ n) × (columnCount ≡ m)
   all-read (At last) e = (last, refl, cc, cc)
@@ -126,18 +164,30 @@ module _ {file : List ℕ} (f : File file) where
   unfolding checked filePassed
   readings e =
       let (last, passed, n-is, m-is) = all-read (filePassed file) e in
-      let (first, h, passed′) = through (headPassed file) passed in
-      let (end, c, ends) = through (columnsPassed file (all taxaCount) columnCount first) passed′ in
-      (gather h c ends, n-is, m-is)
+      let (second, h, passed′) = through (headPassed file) passed in
+      let (first, ms, passed″) = through (multiplicitiesPassed file taxaCount second) passed′ in
+      let (end, c, ends) = through (columnsPassed file (all taxaCount) columnCount first) passed″ in
+      (gather h ms c ends, n-is, m-is)
 
 length-columns : (file : List ℕ) (m at : ℕ) → length (columnsFrom file m at) ≡ m
 unfolding columnsFrom
 length-columns file zero at = refl
 length-columns file (suc m) at = ap suc (length-columns file m (at + 22))
 
+-- Column c of m whose records start at a place; of the matrix in a file, it is that file's column c.
+column-from : (file : List ℕ) (m at c : ℕ) (d : Column) → c < length (columnsFrom file m at) → getD (columnsFrom file m at) c d ≡ columnAt file (at + 4 + 22 * c)
+unfolding columnsFrom
+column-from file zero at c d b = absurd (omega arith)
+column-from file (suc m) at zero d b = ap (columnAt file) (omega arith)
+column-from file (suc m) at (suc c) d b = column-from file m (at + 22) c d (omega arith) ∙ ap (columnAt file) (omega arith)
+
+pub column-of : (file : List ℕ) (c : ℕ) (d : Column) → c < length (matrixOf file .columns) → getD (matrixOf file .columns) c d ≡ columnIn file c
+unfolding matrixOf
+column-of file = column-from file (numberAt 2 file 6) (columnsAt file)
+
 module _ {file : List ℕ} (f : File file) {n m : ℕ} (taken : Taken n m ≡ checked file) where
-  -- "12 + 22m bytes".
-  pub taken-length : length file ≡ 12 + 22 * m
+  -- "12 + 22m bytes", and 4 + n more with multiplicities.
+  pub taken-length : length file ≡ columnsAt file + 22 * m + 4
   taken-length = let (r, n-is, m-is) = readings f taken in omega (arith, r .end-read .length-is)
 
   pub taken-taxa : matrixOf file .taxa ≡ n
@@ -146,7 +196,7 @@ module _ {file : List ℕ} (f : File file) {n m : ℕ} (taken : Taken n m ≡ ch
 
   pub taken-columns : length (matrixOf file .columns) ≡ m
   unfolding matrixOf
-  taken-columns = length-columns file (numberAt 2 file 6) 8 ∙ readings f taken .2
+  taken-columns = length-columns file (numberAt 2 file 6) (columnsAt file) ∙ readings f taken .2
 
   pub taken-legal : Legal (matrixOf file)
   unfolding matrixOf
@@ -155,16 +205,26 @@ module _ {file : List ℕ} (f : File file) {n m : ℕ} (taken : Taken n m ≡ ch
       record {
         some-taxa = r .head-read .some;
         taxa-fit = r .head-read .few;
-        columns-fit = omega (arith, length-columns file (numberAt 2 file 6) 8, r .head-read .columns);
+        multiplicities-legal = r .multiplicities-read .legal;
+        columns-fit = omega (arith, length-columns file (numberAt 2 file 6) (columnsAt file), r .head-read .columns);
         columns-legal = r .columns-read .legal;
       }
+
+  -- Its multiplicities can be read.
+  pub taken-multiplied : Multiplied file
+  unfolding matrixOf
+  taken-multiplied = record { long = omega (arith, before-columns file, taken-length); fit = legal-fit taken-legal }
 
   -- "An accepted file is the encoding of its content."
   pub taken-is-file : file ≡ fileOf (matrixOf file)
   unfolding matrixOf fileOf
   taken-is-file =
       let r = readings f taken .0 in
-      rw length-columns (head-stands f (r .head-read) ∙ ap (_++_ (headBytes (numberAt 2 file 4) (numberAt 2 file 6))) (r .columns-read .stand ∙ ap (_++_ (columnsBytes (columnsFrom file (numberAt 2 file 6) 8))) (r .end-read .stands)))
+      let from : List Column = columnsFrom file (numberAt 2 file 6) (columnsAt file) in
+      rw length-columns
+      (head-stands f (r .head-read)
+      ∙ ap (_++_ (headBytes (numberAt 2 file 4) (numberAt 2 file 6))) (r .multiplicities-read .stand
+      ∙ ap (_++_ (multiplicityBytes (multiplicitiesIn file))) (r .columns-read .stand ∙ ap (_++_ (columnsBytes from)) (r .end-read .stands))))
 
 -- No two accepted files carry the same matrix.
 pub same-matrix-same-file : {file file′ : List ℕ} {n m n′ m′ : ℕ} → File file → File file′ → Taken n m ≡ checked file → Taken n′ m′ ≡ checked file′

@@ -1,13 +1,15 @@
--- The operation "check a matrix": refusals 1 to 8 in document 01's order, "within a record by number".
+-- The operation "check a matrix": refusals 1 to 8 in document 01's order, "within a record by number", and 21 "after 4 and before any column".
 use mathlib.Core.Path.{_≡_}
-use mathlib.Core.Bool.{_||_, _&&_, cond}
-use mathlib.Core.List.{List}
+use mathlib.Core.Bool.{Bool, true, not, _||_, _&&_, cond}
+use mathlib.Core.List.{List, [], _∷_}
 use Prim.Native.Nat.{ℕ, zero, suc, _+_}
 use lib.Dec.{ltb, eqb}
-use Rattle.taxa.specs.Sets.{_∩_, within, all}
+use lib.ListN.{length, take, drop}
+use Rattle.taxa.specs.Sum.{sum}
+use Rattle.taxa.specs.Sets.{_∩_, within, multiplicity, all}
 use Rattle.record.specs.Bytes.{numberAt}
 use Rattle.record.specs.Records as records
-use Rattle.record.specs.Records.{recordOf, refused, step, judged, onward, nothingAfter}
+use Rattle.record.specs.Records.{recordOf, multiplicityRecord, refused, step, judged, onward, nothingAfter}
 use Rattle.record.specs.declared.Cursor.{Cursor}
 use Rattle.record.specs.declared.Passed.{Passed}
 use Rattle.record.specs.declared.Passed.the-variants.{At}
@@ -15,7 +17,7 @@ use Rattle.record.specs.declared.Passed.the-variants as passed
 use Rattle.matrix.specs.declared.Column.{Column}
 use Rattle.matrix.specs.declared.Checked.{Checked}
 use Rattle.matrix.specs.declared.Checked.the-variants.{Taken, Refused}
-use Rattle.matrix.specs.Matrix.{columnAt}
+use Rattle.matrix.specs.Matrix.{columnAt, hasMultiplicities}
 
 -- "n is 0 or above 64" (3), "m above 256" (4), at the head.
 unfoldable pub headJudged : ℕ → ℕ → Cursor → Passed
@@ -29,6 +31,26 @@ unfoldable pub headPassed : List ℕ → Passed
 headPassed file =
     judged (step file 0 (recordOf records.matrixHead)) (λ at next.
     headJudged (numberAt 2 file at) (numberAt 2 file (at + 2)) next)
+
+-- Whether a test holds of each number of a list.
+unfoldable pub every : (ℕ → Bool) → List ℕ → Bool
+every test [] = true
+every test (a ∷ ms) = test a && every test ms
+
+-- "A multiplicity is 0, the sum is above 127, or all are 1".
+abbrev pub wrong : List ℕ → Bool
+wrong ms = not (every (λ a. ltb 0 a) ms) || (ltb 127 (sum (length ms) (multiplicity ms)) || every (λ a. eqb a 1) ms)
+
+-- "Refusals: 21 [..]; at the kind 5 record".
+unfoldable pub multiplicitiesJudged : List ℕ → ℕ → Cursor → Passed
+multiplicitiesJudged ms place next = cond (wrong ms) (passed.Refused (refused 21 place)) (At next)
+
+-- The record of n multiplicities, where it is there: read, then judged.
+unfoldable pub multiplicitiesPassed : List ℕ → ℕ → Cursor → Passed
+multiplicitiesPassed file n here =
+    cond (hasMultiplicities file)
+    (judged (step file (here .at) (multiplicityRecord n)) (λ at next. multiplicitiesJudged (take n (drop at file)) (here .at) next))
+    (At here)
 
 -- "Weight 0" (5), "a taxon n or above in a set" (6), "a taxon in both 1-set and 0-set" (7), at the column; `known` are the n taxa.
 unfoldable pub columnJudged : ℕ → ℕ → Column → Cursor → Passed
@@ -52,10 +74,13 @@ columnsPassed file known (suc m) here = onward (columnPassed file known here) (c
 unfoldable pub endPassed : List ℕ → Cursor → Passed
 endPassed file here = judged (step file (here .at) (recordOf records.matrixEnd)) (λ at after. nothingAfter file after)
 
--- The whole file: head, m columns, end.
+-- What follows the multiplicities: m columns, end.
+abbrev pub bodyPassed : List ℕ → Cursor → Passed
+bodyPassed file first = onward (columnsPassed file (all (numberAt 2 file 4)) (numberAt 2 file 6) first) (endPassed file)
+
+-- The whole file: head, multiplicities, m columns, end.
 unfoldable pub filePassed : List ℕ → Passed
-filePassed file =
-    onward (headPassed file) (λ first. onward (columnsPassed file (all (numberAt 2 file 4)) (numberAt 2 file 6) first) (endPassed file))
+filePassed file = onward (headPassed file) (λ second. onward (multiplicitiesPassed file (numberAt 2 file 4) second) (bodyPassed file))
 
 -- n and m where the file passed, and else the refusal.
 abbrev pub answered : ℕ → ℕ → Passed → Checked

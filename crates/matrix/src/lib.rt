@@ -1,4 +1,4 @@
-// A matrix file: one head, m columns, one end. The operation "check a matrix", and the columns of a file that it takes.
+// A matrix file: one head, perhaps n multiplicities, m columns, one end. The operation "check a matrix", and the columns of a file that it takes.
 // Promises: every byte string is taken with its n and m or refused with document 01's number and place; file and content
 // determine each other. Rests on taxa and record.
 use record::Cursor;
@@ -9,9 +9,10 @@ use record::Step;
 use record::number::u16_at;
 use record::number::u64_at;
 ghost use mathlib.Core.Path.{_≡_};
-ghost use Prim.Native.Nat.{_+_, _*_, _≤_};
+ghost use Prim.Native.Nat.{_+_, _*_, _<_, _≤_};
 ghost use lib.ListN.{length};
-ghost use Rattle.matrix.specs.Matrix.{columnAt, columnIn};
+ghost use Rattle.taxa.specs.Sets.{multiplicity, multiplicityIn};
+ghost use Rattle.matrix.specs.Matrix.{hasMultiplicities, multiplicityCount, multiplicitiesIn, Multiplied, columnsAt, columnAt, columnIn};
 ghost use Rattle.matrix.specs.Check as check;
 
 pub struct Column {
@@ -94,6 +95,50 @@ fn pass_head(file: &[u8]) -> Passed
     judge_head(u16_at(file, at), u16_at(file, at + 2), next)
 }
 
+// Whether the record after the head is the one of multiplicities.
+fn has_multiplicities(file: &[u8]) -> bool
+    ensures { λ r. ⌜ r ≡ hasMultiplicities (now (file .entry)) ⌝ }
+{
+    if file.len() < 12 {
+        return false;
+    }
+    u16_at(file, 10) == Record::MULTIPLICITIES
+}
+
+// The multiplicities' own refusal. None being 0, all are 1 where the sum is their number.
+fn judge_multiplicities(multiplicities: &[u8], place: usize, next: Cursor) -> Passed
+    requires { ⌜ length (now multiplicities) < 65536 ⌝ }
+    ensures { λ r. ⌜ r ≡ check.multiplicitiesJudged (now (multiplicities .entry)) place next ⌝ }
+{
+    let mut sum: u32 = 0;
+    for i in 0..multiplicities.len() {
+        if multiplicities[i] == 0 {
+            return Passed::Refused(Refusal { number: 21, place });
+        }
+        sum += multiplicities[i] as u32;
+    }
+    if 127 < sum {
+        return Passed::Refused(Refusal { number: 21, place });
+    }
+    if sum as usize == multiplicities.len() {
+        return Passed::Refused(Refusal { number: 21, place });
+    }
+    Passed::At(next)
+}
+
+fn pass_multiplicities(here: Cursor, file: &[u8], n: u16) -> Passed
+    ensures { λ r. ⌜ r ≡ check.multiplicitiesPassed (now (file .entry)) n here ⌝ }
+{
+    if !has_multiplicities(file) {
+        return Passed::At(here);
+    }
+    let step = here.read(file, Record::multiplicities(n));
+    let Step::Payload(at, next) = step else {
+        return Passed::Refused(step.refusal());
+    };
+    judge_multiplicities(&file[at..at + n as usize], here.at, next)
+}
+
 fn pass_column(here: Cursor, file: &[u8], all: u64) -> Passed
     ensures { λ r. ⌜ r ≡ check.columnPassed (now (file .entry)) all here ⌝ }
 {
@@ -136,11 +181,15 @@ pub fn check(file: &[u8]) -> Checked
     ensures { λ r. ⌜ check.Checks (now (file .entry)) r ⌝ }
 {
     let head = pass_head(file);
-    let Passed::At(first) = head else {
+    let Passed::At(second) = head else {
         return Checked::Refused(head.refusal());
     };
     let n = u16_at(file, 4);
     let m = u16_at(file, 6);
+    let multiplicities = pass_multiplicities(second, file, n);
+    let Passed::At(first) = multiplicities else {
+        return Checked::Refused(multiplicities.refusal());
+    };
     let columns = pass_columns(first, file, taxa::all(n as u32), m);
     let Passed::At(end) = columns else {
         return Checked::Refused(columns.refusal());
@@ -152,10 +201,40 @@ pub fn check(file: &[u8]) -> Checked
     Checked::Taken(n, m)
 }
 
+// How many multiplicities a file holds.
+fn multiplicity_count(file: &[u8]) -> usize
+    ensures { λ r. ⌜ r ≡ multiplicityCount (now (file .entry)) ⌝ }
+{
+    if has_multiplicities(file) {
+        u16_at(file, 4) as usize
+    } else {
+        0
+    }
+}
+
+// The multiplicities of a file that the check takes.
+pub fn planes_in(file: &[u8]) -> [u64; 8]
+    requires { ⌜ Multiplied (now file) ⌝ }
+    ensures { λ r. ⌜ multiplicityIn r ≡ multiplicity (multiplicitiesIn (now (file .entry))) ⌝ }
+{
+    taxa::planes_of(&file[12..12 + multiplicity_count(file)])
+}
+
+// Where the record of the first column starts.
+fn columns_at(file: &[u8]) -> usize
+    ensures { λ r. ⌜ r ≡ columnsAt (now (file .entry)) ⌝ }
+{
+    if has_multiplicities(file) {
+        12 + u16_at(file, 4) as usize
+    } else {
+        8
+    }
+}
+
 // Column c of a file that the check takes with more than c columns.
 pub fn column_in(file: &[u8], c: usize) -> Column
-    requires { ⌜ 30 + 22 * c ≤ length (now file) ⌝ }
+    requires { ⌜ columnsAt (now file) + 22 * c + 22 ≤ length (now file) ⌝ }
     ensures { λ r. ⌜ r ≡ columnIn (now (file .entry)) c ⌝ }
 {
-    Column::read(file, 12 + 22 * c)
+    Column::read(file, columns_at(file) + 4 + 22 * c)
 }

@@ -33,5 +33,8 @@ module _ (Number : ℕ → Type 0) where
     by-judged it (step.Payload b c) e h = h b c e
     by-judged it (step.Refused why) e h = (omega arith, small (why .number) (e .1) (e .2))
 
+    pub by-step : (file : List ℕ) (it : Record) → ((b : ℕ) (c : Cursor) → c .at ≡ at + 4 + it .length → By far (judge b c)) → By far (judged (step file at it) judge)
+    by-step file it = by-judged it (step file at it) (step-ends file at it)
+
     pub by-record : (file : List ℕ) (kind : ℕ) → ((b : ℕ) (c : Cursor) → c .at ≡ at + 4 + payload kind → By far (judge b c)) → By far (judged (step file at (recordOf kind)) judge)
-    by-record file kind = by-judged (recordOf kind) (step file at (recordOf kind)) (step-ends file at (recordOf kind))
+    by-record file kind = by-step file (recordOf kind)

@@ -27,6 +27,10 @@ column = 2
 abbrev pub matrixEnd : ℕ
 matrixEnd = 3
 
+-- "A record of kind 5, directly after the matrix head" (document 02, C-14).
+abbrev pub multiplicities : ℕ
+multiplicities = 5
+
 -- "17 answer head".
 abbrev pub answerHead : ℕ
 answerHead = 17
@@ -43,7 +47,7 @@ flips = 19
 abbrev pub answerEnd : ℕ
 answerEnd = 20
 
--- How many bytes the payload of a kind has; the end records, and no others, have none.
+-- How many bytes the payload of a kind of document 01 has; the end records, and no others, have none.
 abbrev pub payload : ℕ → ℕ
 payload kind =
     cond (eqb kind matrixHead) 4
@@ -55,6 +59,10 @@ payload kind =
 -- The record of a kind.
 abbrev pub recordOf : ℕ → Record
 recordOf kind = record { kind = kind; length = payload kind }
+
+-- It "holds n bytes, one multiplicity per taxon": its length is no payload of a kind.
+abbrev pub multiplicityRecord : ℕ → Record
+multiplicityRecord n = record { kind = multiplicities; length = n }
 
 -- How many bytes of a file are left from a place on.
 abbrev pub left : List ℕ → ℕ → ℕ

@@ -6,7 +6,7 @@ pub mod writer;
 
 use number::u16_at;
 ghost use mathlib.Core.Path.{_≡_};
-ghost use Rattle.record.specs.Records.{recordOf, left, step, refusalOf, passedRefusal, nothingAfter};
+ghost use Rattle.record.specs.Records.{recordOf, multiplicityRecord, left, step, refusalOf, passedRefusal, nothingAfter};
 
 // Why and where an input is refused: document 01's number and place.
 pub struct Refusal {
@@ -27,6 +27,8 @@ impl Record {
 
     pub const MATRIX_END: u16 = 3;
 
+    pub const MULTIPLICITIES: u16 = 5;
+
     pub const ANSWER_HEAD: u16 = 17;
 
     pub const GROUP: u16 = 18;
@@ -35,7 +37,7 @@ impl Record {
 
     pub const ANSWER_END: u16 = 20;
 
-    // The record of a kind, as long as document 01's table says; the end records, and no others, have no payload.
+    // The record of a kind, as long as document 01's table says; the end records, and no others of the table, have no payload.
     pub fn of(kind: u16) -> Self
         ensures { λ r. ⌜ r ≡ recordOf kind ⌝ }
     {
@@ -48,6 +50,16 @@ impl Record {
             _ => 0,
         };
         Record { kind, length }
+    }
+
+    // The record of n multiplicities: its length is not of its kind, so that `of` does not make it.
+    pub fn multiplicities(n: u16) -> Self
+        ensures { λ r. ⌜ r ≡ multiplicityRecord n ⌝ }
+    {
+        Record {
+            kind: Self::MULTIPLICITIES,
+            length: n,
+        }
     }
 }
 
