@@ -12,7 +12,8 @@ use Rattle.matrix.specs.declared.Column as matrix
 use Rattle.matrix.specs.declared.Checked.the-variants.{Taken}
 use Rattle.matrix.specs.Check.{checked}
 use Rattle.matrix.specs.Matrix.{multiplicitiesIn, columnsAt, LegalColumn, LegalColumns, none, one, matrixOf}
-use Rattle.matrix.proofs.Taken.{taken-length, taken-taxa, taken-columns, taken-legal, legal-positive, legal-merged}
+use Rattle.matrix.proofs.Taken.{taken-length, taken-taxa, taken-columns, taken-legal}
+use Rattle.matrix.proofs.Multiplying.{legal-positive, legal-merged}
 use Rattle.method.specs.Tree.{Sound, column}
 use Rattle.split.specs.Columns.{columnOf, matrixIn}
 use Rattle.split.proofs.Loading.{blank}
@@ -45,7 +46,7 @@ module _ {file : List ℕ} (f : File file) {n m : ℕ} (taken : Taken n m ≡ ch
   can-load long = (long ∙ sym taken-count, omega (arith, taken-length f taken))
 
   -- Planes that were read off the file hold its multiplicities, of which none is 0.
-  module _ {P : List ℕ} (are : multiplicityIn P ≡ multiplicity (multiplicitiesIn file)) where
+  module _ (P : List ℕ) (are : multiplicityIn P ≡ multiplicity (multiplicitiesIn file)) where
     pub read-multiplicities : multiplicityIn P ≡ multiplicity (matrixIn file .multiplicities)
     unfolding matrixOf
     read-multiplicities = are
