@@ -7,9 +7,9 @@ use native.Mathlib.Nat.{mul-one}
 use native.Mathlib.Omega.{arith}
 use lib.Dec.{ltb}
 use lib.ListN.{length}
-use Rattle.taxa.specs.Sets.{has, _∖_, unit, count, low, all}
+use Rattle.taxa.specs.Sets.{has, _∖_, unit, count, low, all, multiplicity}
 use Rattle.method.specs.Split.{Column, share, divisionCost, key, side, flip, flipped, after, apart, part, partsOf, parts, splitCost}
-use Rattle.method.specs.Tree.{Walk, leaf, walked, node, grown, build, ordered, Flips, flipList, total, weighedFlips, Matrix, Answer, column, multiplicity, answer}
+use Rattle.method.specs.Tree.{Walk, leaf, walked, node, grown, build, ordered, Flips, flipList, total, weighedFlips, Matrix, Answer, column, answer}
 use Rattle.method.specs.Flow.{joined, cap, through}
 use Rattle.method.specs.Counted as old
 

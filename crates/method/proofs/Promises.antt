@@ -7,7 +7,7 @@ use native.Mathlib.Nat.{mul-le-mul-right}
 use native.Mathlib.Decide.{decLt}
 use native.Mathlib.Omega.{arith}
 use lib.ListN.{length, List·getD-eq-default}
-use Rattle.taxa.specs.Sets.{_∈_, _⊆_, Disjoint, _∩_, mass, count, low, all}
+use Rattle.taxa.specs.Sets.{_∈_, _⊆_, Disjoint, _∩_, mass, count, low, all, multiplicity}
 use Rattle.taxa.specs.Groups.{NestedOrDisjoint}
 use Rattle.taxa.proofs.Groups.{before-differ}
 use Rattle.taxa.proofs.Sums.{term-≤}
@@ -15,7 +15,7 @@ use Rattle.taxa.proofs.Members.{none, below, low-≤, in-all, all-<, all-fits, 
 use Rattle.taxa.proofs.Masses.{mass-⊆, mass-all}
 use Rattle.taxa.proofs.Counts.{count-all, count-pos}
 use Rattle.method.specs.Split.{Column, Same, Rule, side, parted, divisionCost, splitCost, after, FlipsAt, splitParts}
-use Rattle.method.specs.Tree.{Group, Walk, walked, node, build, ordered, Line, InFileOrder, Flips, total, Matrix, column, multiplicity, answer, Sound, ComesTo, Components, made, weighedFlips, Clade, Filled, group, single, RootedTree, Fits}
+use Rattle.method.specs.Tree.{Group, Walk, walked, node, build, ordered, Line, InFileOrder, Flips, total, Matrix, column, answer, Sound, ComesTo, Components, made, weighedFlips, Clade, Filled, group, single, RootedTree, Fits}
 use Rattle.method.specs.Flow.{Flow, arcs, limits, FlowSearch, SplitPromise}
 use Rattle.method.proofs.Flips.{Proper}
 use Rattle.method.proofs.Listing.{side-rule}

@@ -12,10 +12,10 @@ ghost use Prim.Native.Nat.{_+_, _*_, _≤_};
 ghost use lib.ListN.{length};
 
 // Room for the largest matrix file and one byte more: what lies past that changes nothing.
-fn file_room() -> [u8; 5645]
-    ensures { λ r. ⌜ length r ≡ 5645 ⌝ }
+fn file_room() -> [u8; 5713]
+    ensures { λ r. ⌜ length r ≡ 5713 ⌝ }
 {
-    [0; 5645]
+    [0; 5713]
 }
 
 // Room for the largest answer.

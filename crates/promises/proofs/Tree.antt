@@ -11,12 +11,15 @@ use Rattle.method.specs.Tree.{Group, Flips, Matrix, answer, total, ComesTo, Com
 use Rattle.method.specs.Flow.{Flow, arcs, limits, FlowSearch}
 use Rattle.method.proofs.Promises as method
 use Rattle.split.specs.Columns.{matrixIn}
-use Rattle.promises.specs.Held.{Leaves, groupsIn, flipsIn, totalIn, many, columnsOf, known, FitsSomeTree}
+use Rattle.promises.specs.Held.{Leaves, groupsIn, flipsIn, totalIn, many, columnsOf, multiplicitiesOf, known, FitsSomeTree}
 use Rattle.promises.proofs.Answers.{sound, groups-are, flips-are, total-is}
 
 module _ {file answerFile : List ℕ} (f : File file) (b : Leaves file answerFile) where
   abbrev M : Matrix
   M = matrixIn file
+
+  abbrev μ : ℕ → ℕ
+  μ = multiplicitiesOf M
 
   abbrev gs : List Group
   gs = groupsIn answerFile
@@ -37,7 +40,7 @@ module _ {file answerFile : List ℕ} (f : File file) (b : Leaves file answerFil
   group-comes l = let (cols, r, e) = method.group-reached M (sound f b) (in-method l) in (cols, r, λ cols′ q. method.group-columns M (sound f b) q r)
 
   -- Each group that the build comes to is one of the answer file, with what its split costs there.
-  pub comes-listed : {cols : ℕ → Column} {S : ℕ} → ComesTo M cols S → List·Memᴰ (record { taxa = S; cost = splitCost 64 (many M) cols S }) gs
+  pub comes-listed : {cols : ℕ → Column} {S : ℕ} → ComesTo M cols S → List·Memᴰ (record { taxa = S; cost = splitCost 64 μ (many M) cols S }) gs
   comes-listed r = in-file (method.reached-group M (sound f b) r)
 
   module _ {g : Group} (l : List·Memᴰ g gs) {cols : ℕ → Column} (r : ComesTo M cols (g .taxa)) where
@@ -45,32 +48,32 @@ module _ {file answerFile : List ℕ} (f : File file) (b : Leaves file answerFil
     S = g .taxa
 
     abbrev A : ℕ
-    A = side 64 (many M) cols S
+    A = side 64 μ (many M) cols S
 
     abbrev t : ℕ
     t = parted 64 S A
 
     -- The cost in the answer file is that of the division used, whose side is A.
-    pub cost-used : g .cost ≡ divisionCost 64 (many M) cols S A
+    pub cost-used : g .cost ≡ divisionCost 64 μ (many M) cols S A
     cost-used =
         let (cols₀, q, e) = method.group-reached M (sound f b) (in-method l) in
-        e ∙ ap (λ (x : ℕ → Column). splitCost 64 (many M) x S) (method.group-columns M (sound f b) q r)
+        e ∙ ap (λ (x : ℕ → Column). splitCost 64 μ (many M) x S) (method.group-columns M (sound f b) q r)
 
     -- "no division of that group into two non-empty sides costs less than the one used"
-    pub no-division-costs-less : (D : ℕ) → D ⊆ S → D ≢ 0 → D ≢ S → g .cost ≤ divisionCost 64 (many M) cols S D
+    pub no-division-costs-less : (D : ℕ) → D ⊆ S → D ≢ 0 → D ≢ S → g .cost ≤ divisionCost 64 μ (many M) cols S D
     no-division-costs-less = rw cost-used (method.group-cheapest M (sound f b) r)
 
     -- "a flow of exactly that size exists between the two named taxa within document 01's bounds"
-    pub flow-of-that-size : (out : ℕ → ℕ → ℕ) × (inn : ℕ → ℕ → ℕ) × Flow 64 (many M) (arcs 64 (many M) cols S) (limits 64 (many M) cols S) out inn (low 64 S) t (g .cost)
+    pub flow-of-that-size : (out : ℕ → ℕ → ℕ) × (inn : ℕ → ℕ → ℕ) × Flow 64 (many M) (arcs 64 μ (many M) cols S) (limits 64 μ (many M) cols S) out inn (low 64 S) t (g .cost)
     flow-of-that-size = rw cost-used (method.group-flow M (sound f b) r)
 
     -- "the flow search names the same division as listing all of them would": A and t are those of the listing by document 01's rule, a flow search
     -- finds them, and it finds no others.
-    pub search-names-the-listed : Rule 64 (many M) cols S A t × FlowSearch 64 (many M) cols S t A × ((t′ A′ : ℕ) → FlowSearch 64 (many M) cols S t′ A′ → (t′ ≡ t) × (A′ ≡ A))
+    pub search-names-the-listed : Rule 64 μ (many M) cols S A t × FlowSearch 64 μ (many M) cols S t A × ((t′ A′ : ℕ) → FlowSearch 64 μ (many M) cols S t′ A′ → (t′ ≡ t) × (A′ ≡ A))
     search-names-the-listed = let (found, only) = method.group-search M (sound f b) r in (method.group-rule M (sound f b) r, found, only)
 
     -- Its parts are "the connected components of what remains".
-    pub parts-are-components : Components 64 (many M) (after 64 (many M) cols S) S A (splitParts 64 (many M) cols S)
+    pub parts-are-components : Components 64 (many M) (after 64 μ (many M) cols S) S A (splitParts 64 μ (many M) cols S)
     parts-are-components = method.group-parts M (sound f b) r
 
   -- ---- "Over the whole tree the weighed flips add up to the split costs."
@@ -79,9 +82,9 @@ module _ {file answerFile : List ℕ} (f : File file) (b : Leaves file answerFil
   unfolding answer
   total-is-costs = total-is f b ∙ ap total (sym (groups-are f b))
 
-  pub weighed-flips-are-costs : weighedFlips 64 (columnsOf M) fs ≡ total gs
+  pub weighed-flips-are-costs : weighedFlips 64 μ (columnsOf M) fs ≡ total gs
   weighed-flips-are-costs =
-      ap (weighedFlips 64 (columnsOf M)) (flips-are f b) ∙ sym (method.total-flips M (sound f b)) ∙ sym (total-is f b) ∙ total-is-costs
+      ap (weighedFlips 64 μ (columnsOf M)) (flips-are f b) ∙ sym (method.total-flips M (sound f b)) ∙ sym (total-is f b) ∙ total-is-costs
 
   -- ---- "After the flips the unknowns can be filled so that each column's 1-set is empty or a clade of the tree."
 

@@ -6,7 +6,7 @@ use mathlib.Core.Logic.{_↔_}
 use Prim.Native.Nat.{ℕ, _<_, _^_}
 use lib.IntN.{ℤ}
 use lib.ListN.{length, take}
-use Rattle.taxa.specs.Sets.{_∈_, low, all}
+use Rattle.taxa.specs.Sets.{_∈_, multiplicity, low, all}
 use Rattle.method.specs.Flow.{Flow, Reach, arcs, limits}
 use Rattle.method.specs.Split.{Column}
 use Rattle.method.specs.Tree.{Group, Flips, Matrix, column, RootedTree, Fits}
@@ -20,12 +20,12 @@ use Rattle.tree.specs.Build.{returned, Builds}
 
 -- ---- the flow search
 
--- Of a group S of n taxa and m columns: "before it is cleared, the workspace holds a flow of the division's cost from s to t, and [..] side A is the
+-- Of a group S of n taxa, with multiplicities μ, and m columns: "before it is cleared, the workspace holds a flow of the division's cost from s to t, and [..] side A is the
 -- taxa still reachable from s past that flow"; cost, side and t are the method's.
-pub record FlowStands (n m : ℕ) (cols : ℕ → Column) (S : ℕ) (ws : List ℤ) (cost A t : ℕ) : Type 0 where
-  pub flow : Flow n m (arcs n m cols S) (limits n m cols S) (outs ws n) (inns ws n) (low n S) t cost
-  pub reached : (i : ℕ) → i < n → i ∈ A ↔ Reach n m (arcs n m cols S) (limits n m cols S) (outs ws n) (inns ws n) (low n S) i
-  pub is-split : IsSplit m cols S cost A t
+pub record FlowStands (n : ℕ) (μ : ℕ → ℕ) (m : ℕ) (cols : ℕ → Column) (S : ℕ) (ws : List ℤ) (cost A t : ℕ) : Type 0 where
+  pub flow : Flow n m (arcs n μ m cols S) (limits n μ m cols S) (outs ws n) (inns ws n) (low n S) t cost
+  pub reached : (i : ℕ) → i < n → i ∈ A ↔ Reach n m (arcs n μ m cols S) (limits n μ m cols S) (outs ws n) (inns ws n) (low n S) i
+  pub is-split : IsSplit μ m cols S cost A t
 
 -- ---- a matrix file and its answer file
 
@@ -69,6 +69,10 @@ many M = length (M .columns)
 -- Its column of a number.
 abbrev pub columnsOf : Matrix → ℕ → Column
 columnsOf M = column (M .columns)
+
+-- What each of its taxa stands for.
+abbrev pub multiplicitiesOf : Matrix → ℕ → ℕ
+multiplicitiesOf M = multiplicity (M .multiplicities)
 
 -- The set of its taxa.
 abbrev pub known : Matrix → ℕ

@@ -26,6 +26,10 @@ eight x = x ∷ 0 ∷ 0 ∷ 0 ∷ 0 ∷ 0 ∷ 0 ∷ 0 ∷ []
 abbrev head : ℕ → ℕ → List ℕ
 head n m = two 4 ++ two 1 ++ two n ++ two m
 
+-- Multiplicities of three taxa: a record of kind 5.
+abbrev merged : ℕ → ℕ → ℕ → List ℕ
+merged a b c = two 3 ++ two 5 ++ (a ∷ b ∷ c ∷ [])
+
 -- A column: weight, 1-set, 0-set.
 abbrev column : ℕ → ℕ → ℕ → List ℕ
 column weight ones zeros = two 18 ++ two 2 ++ two weight ++ eight ones ++ eight zeros
@@ -128,6 +132,9 @@ table =
     -- 2
     ∷ answers (head 3 2 ++ column 1 0b011 0b100 ++ column 1 0b110 0b001 ++ end) 74 1
     (answerHead 3 2 2 1 1 ++ group 7 1 ++ group 6 0 ++ flips 0 0b100 0 ++ answerEnd)
+    -- 2 with multiplicities 1, 1, 2 (document 02's C-14): to raise taxon 2 in column 0 would weigh 2, to lower taxon 0 there weighs 1.
+    ∷ answers (head 3 2 ++ merged 1 1 2 ++ column 1 0b011 0b100 ++ column 1 0b110 0b001 ++ end) 74 1
+    (answerHead 3 2 2 1 1 ++ group 7 1 ++ group 6 0 ++ flips 0 0 0b001 ++ answerEnd)
     -- 3
     ∷ answers (head 3 2 ++ column 2 0b011 0b100 ++ column 1 0b110 0b001 ++ end) 74 1
     (answerHead 3 2 2 1 1 ++ group 7 1 ++ group 3 0 ++ flips 1 0b001 0 ++ answerEnd)
@@ -148,6 +155,13 @@ table =
     ∷ refuses [] 1 0
     ∷ refuses (head 65 0 ++ end) 3 0
     ∷ takes (head 64 0 ++ end) 64 0
+    -- C-14's refusals: all are 1, one is 0, a length that is not n, and a second record.
+    ∷ takes (head 3 0 ++ merged 1 1 2 ++ end) 3 0
+    ∷ refuses (head 3 0 ++ merged 1 1 1 ++ end) 21 8
+    ∷ refuses (head 3 0 ++ merged 1 0 2 ++ end) 21 8
+    ∷ refuses (head 3 0 ++ merged 126 1 1 ++ end) 21 8
+    ∷ refuses (head 2 0 ++ merged 1 1 2 ++ end) 2 8
+    ∷ refuses (head 3 0 ++ merged 1 1 2 ++ merged 1 1 2 ++ end) 2 15
     -- 9
     ∷ refuses (take 77 first) 1 74
     ∷ refuses (first ++ (0 ∷ [])) 8 78

@@ -10,6 +10,7 @@ use tree::Built;
 ghost use mathlib.Core.Path.{_≡_};
 ghost use Prim.Native.Nat.{_*_, _≤_};
 ghost use lib.ListN.{length};
+ghost use Rattle.taxa.specs.Sets.{multiplicityIn};
 ghost use Rattle.matrix.specs.Check.{Checks, checked};
 ghost use Rattle.search.specs.Search.{Given, colsOf};
 ghost use Rattle.search.specs.Workspace.{Kept};
@@ -64,6 +65,7 @@ pub fn score_from_c(matrix: &[u8], answer: &[u8]) -> u64
 // The search of a group, which the split clears away; its lists are lent here.
 pub fn search(
     weights: &[u16],
+    planes: &[u64; 8],
     ones: &[u64],
     zeros: &[u64],
     group: u64,
@@ -71,9 +73,9 @@ pub fn search(
     m: usize,
     workspace: &mut [i32],
 ) -> Split
-    requires { ⌜ Given (now weights) (now ones) (now zeros) group n m × (n * m ≤ length (now workspace)) ⌝ }
+    requires { ⌜ Given (now weights) (now planes) (now ones) (now zeros) group n m × (n * m ≤ length (now workspace)) ⌝ }
     ensures { λ r. ⌜
-        FlowStands n m (colsOf (now (weights .entry)) (now (ones .entry)) (now (zeros .entry))) group (now (workspace .exit)) (r .cost) (r .side) (r .other)
+        FlowStands n (multiplicityIn (now (planes .entry))) m (colsOf (now (weights .entry)) (now (ones .entry)) (now (zeros .entry))) group (now (workspace .exit)) (r .cost) (r .side) (r .other)
         × Kept (n * m) (now (workspace .entry)) (now (workspace .exit)) ⌝ }
 {
     let mut joined = [0u64; 256];
@@ -82,6 +84,7 @@ pub fn search(
     let mut tree = [0u32; 256];
     search::divide(
         weights,
+        planes,
         ones,
         zeros,
         group,

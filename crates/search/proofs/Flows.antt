@@ -10,15 +10,16 @@ use lib.IntN.{ℤ}
 use lib.ListN.{length, set, replicate, length-set, getD-replicate}
 use lib.Seq.{getD-set-same, getD-set-other}
 use Rattle.taxa.specs.Sum.{sum, ∁, inside, outside}
-use Rattle.taxa.specs.Sets.{has}
+use Rattle.taxa.specs.Sets.{has, multiplicityIn}
 use Rattle.taxa.proofs.Sums.{sum-≡, sum-none, sum-bound, term-≤}
 use Rattle.taxa.proofs.Insides.{cond-≡}
 use Rattle.taxa.proofs.Members.{below, pow-in}
+use Rattle.taxa.proofs.Planes.{in-small}
 use Rattle.method.specs.Flow.{cut}
 use Rattle.search.specs.Workspace.{outs, inns, cleared, Kept, CanHop}
 use Rattle.method.proofs.Carry.{Hopped, Moved}
 use Rattle.method.proofs.HopTree.{Tree, Link}
-use Rattle.search.specs.Network.{nth, caps, Unused, Net, Ready}
+use Rattle.search.specs.Network.{nth, arcMost, flowMost, caps, Unused, Net, Ready}
 use Rattle.search.specs.Reaching.{fromOf, viaOf, turnOf, widthOf, carried, Found}
 use Rattle.search.specs.Flows.{CanCount, Counted, Flowing, Advanced}
 use Rattle.search.proofs.Workspace.{kept-none, kept-then, cleared-kept, out-0, inn-0}
@@ -33,23 +34,27 @@ twice : (b : Bool) (x : ℕ) → cond (not (not b)) x 0 ≡ cond b x 0
 twice true x = refl
 twice false x = refl
 
-cond-lt : (b : Bool) {w k : ℕ} → w < k → cond b w 0 < k
-cond-lt true h = h
-cond-lt false h = omega arith
+cond-le : (b : Bool) {w k : ℕ} → w ≤ k → cond b w 0 ≤ k
+cond-le true h = h
+cond-le false h = omega arith
 
-pub caps-small : {W J L : List ℕ} {n m : ℕ} → Net W J L n m → (c : ℕ) → c < m → (i : ℕ) → caps W J c i < 65536
+-- "65,535 x 127", the most that an arc carries.
+pub arc-small : (P : List ℕ) {w : ℕ} → w < 65536 → (i : ℕ) → w * multiplicityIn P i ≤ arcMost
+arc-small P l i = omega (arith, mul-le-mul-right (multiplicityIn P i) l, in-small P i)
+
+pub caps-small : {W P J L : List ℕ} {n m : ℕ} → Net W P J L n m → (c : ℕ) → c < m → (i : ℕ) → caps W P J c i ≤ arcMost
 unfolding caps
-caps-small {W} {J} z c b i = cond-lt (has (nth J c) i) (z .light c b)
+caps-small {W} {P} {J} z c b i = cond-le (has (nth J c) i) (arc-small P (z .light c b) i)
 
-module _ {W J L : List ℕ} {n m : ℕ} {ws : List ℤ} {U : List ℕ} where
-  -- "256 x 65,535": a flow is at most what its sink can take, which is what the set of all other taxa costs at most.
-  pub size-small : {X t k : ℕ} → Flowing W J L n m ws U X t k → k ≤ 16776960
+module _ {W P J L : List ℕ} {n m : ℕ} {ws : List ℤ} {U : List ℕ} where
+  -- "127 x 256 x 65,535": a flow is at most what its sink can take, which is what the set of all other taxa costs at most.
+  pub size-small : {X t k : ℕ} → Flowing W P J L n m ws U X t k → k ≤ flowMost
   size-small {X} {t} f =
       omega (
         arith,
-        weak-from n m (caps W J) (nth L) (outs ws n) (inns ws n) (f .flow) others in-others (ap not (only-alone t .held)),
-        sum-bound m 65535 {g = λ c. cut n (caps W J c) (nth L c) others} (λ c b. omega (arith, taken c, caps-small (f .ready .net) c b t)),
-        mul-le-mul-right 65535 (f .ready .net .columns),
+        weak-from n m (caps W P J) (nth L) (outs ws n) (inns ws n) (f .flow) others in-others (ap not (only-alone t .held)),
+        sum-bound m arcMost {g = λ c. cut n (caps W P J c) (nth L c) others} (λ c b. omega (arith, taken c, caps-small (f .ready .net) c b t)),
+        mul-le-mul-right arcMost (f .ready .net .columns),
       )
     where
       others : ℕ → Bool
@@ -58,15 +63,15 @@ module _ {W J L : List ℕ} {n m : ℕ} {ws : List ℤ} {U : List ℕ} where
       in-others : (i : ℕ) → has X i ≡ true → others i ≡ true
       in-others i h = ap not (alone-off (only-alone t) i (λ e. true≢false (sym h ∙ ap (has X) e ∙ f .apart)))
 
-      taken : (c : ℕ) → sum n (outside others (caps W J c)) ≡ caps W J c t
-      taken c = sum-≡ n (λ i b. twice (only t i) (caps W J c i)) ∙ inside-alone (only-alone t) (f .sink) (caps W J c)
+      taken : (c : ℕ) → sum n (outside others (caps W P J c)) ≡ caps W P J c t
+      taken c = sum-≡ n (λ i b. twice (only t i) (caps W P J c i)) ∙ inside-alone (only-alone t) (f .sink) (caps W P J c)
 
-  sum-small : Ready W J L n m ws U → (c : ℕ) → c < m → sum n (outs ws n c) ≤ 4194240
+  sum-small : Ready W P J L n m ws U → (c : ℕ) → c < m → sum n (outs ws n c) ≤ 532668480
   sum-small r c b =
       omega (
         arith,
-        sum-bound n 65535 {g = outs ws n c} (λ i bi. omega (arith, r .column c b .out-fits i bi, caps-small (r .net) c b i)),
-        mul-le-mul-right 65535 (r .net .taxa),
+        sum-bound n arcMost {g = outs ws n c} (λ i bi. omega (arith, r .column c b .out-fits i bi, caps-small (r .net) c b i)),
+        mul-le-mul-right arcMost (r .net .taxa),
       )
 
 -- ---- the count of a column after a hop: what it was, and what the two entries are more
@@ -74,7 +79,7 @@ module _ {W J L : List ℕ} {n m : ℕ} {ws : List ℤ} {U : List ℕ} where
 pub count-after : (n : ℕ) {out inn out′ inn′ : ℕ → ℕ} {i j d : ℕ} → Moved n out inn out′ inn′ i j d → i < n → j < n → i ≢ j → sum n out′ + out i + out j ≡ sum n out + out′ i + out′ j
 count-after n {out} {inn} {out′} mv bi bj ne = sum-two n out′ out bi bj ne (mv .rest-out)
 
-pub entries-few : {n m : ℕ} {ws : List ℤ} {U : List ℕ} {c i j d : ℕ} → CanHop ws n m c i j d → CanCount n ws U c d → (outs ws n c i < 2 ^ 24) × (outs ws n c j < 2 ^ 24)
+pub entries-few : {n m : ℕ} {ws : List ℤ} {U : List ℕ} {c i j d : ℕ} → CanHop ws n m c i j d → CanCount n ws U c d → (outs ws n c i < 2 ^ 30) × (outs ws n c j < 2 ^ 30)
 entries-few {n} {ws = ws} {c = c} h k = (omega (arith, k .is, k .few, term-≤ n (outs ws n c) (h .from)), omega (arith, k .is, k .few, term-≤ n (outs ws n c) (h .to)))
 
 pub counted : (n : ℕ) {ws′ : List ℤ} (U : List ℕ) (c : ℕ) {v : ℕ} → length U ≡ 256 → c < 256 → v ≡ sum n (outs ws′ n c) → Counted n ws′ U (set U c v) c
@@ -82,9 +87,9 @@ counted n U c {v} l b e = record { counts = length-set U c v ∙ l; is = getD-se
 
 -- ---- one hop
 
-module _ {W J L : List ℕ} {n m : ℕ} {ws : List ℤ} {U : List ℕ} (r : Ready W J L n m ws U) {c i j d : ℕ} (bc : c < m) (bi : i < n) (bj : j < n) (ne : i ≢ j) where
+module _ {W P J L : List ℕ} {n m : ℕ} {ws : List ℤ} {U : List ℕ} (r : Ready W P J L n m ws U) {c i j d : ℕ} (bc : c < m) (bi : i < n) (bj : j < n) (ne : i ≢ j) where
   -- What it asks: room at both taxa.
-  pub hop-asks : outs ws n c i + d ≤ caps W J c i + inns ws n c i → inns ws n c j + d ≤ caps W J c j + outs ws n c j → CanHop ws n m c i j d × CanCount n ws U c d
+  pub hop-asks : outs ws n c i + d ≤ caps W P J c i + inns ws n c i → inns ws n c j + d ≤ caps W P J c j + outs ws n c j → CanHop ws n m c i j d × CanCount n ws U c d
   hop-asks up down =
       let col = r .column c bc in
       let z = r .net in (
@@ -111,7 +116,7 @@ module _ {W J L : List ℕ} {n m : ℕ} {ws : List ℤ} {U : List ℕ} (r : Read
   hop-sums {ws′} h q e b = ⊎-elim (λ f. rw f (q .is)) (λ f. q .rest e f ∙ r .sums e b ∙ sym (sum-≡ n {g = outs ws′ n e} {h = outs ws n e} (h .rest-out e b f))) (same? e c)
 
 -- Straight from a source to t.
-module _ {W J L : List ℕ} {n m : ℕ} {ws : List ℤ} {U : List ℕ} {X t k : ℕ} (f : Flowing W J L n m ws U X t k) {c i d : ℕ} (bc : c < m) (x : has X i ≡ true) (le : d ≤ carried W J L n ws c i t) where
+module _ {W P J L : List ℕ} {n m : ℕ} {ws : List ℤ} {U : List ℕ} {X t k : ℕ} (f : Flowing W P J L n m ws U X t k) {c i d : ℕ} (bc : c < m) (x : has X i ≡ true) (le : d ≤ carried W P J L n ws c i t) where
   bi : i < n
   bi = below n (f .sources) (record { is = x })
 
@@ -121,7 +126,7 @@ module _ {W J L : List ℕ} {n m : ℕ} {ws : List ℤ} {U : List ℕ} {X t k : 
   pub direct-asks : CanHop ws n m c i t d × CanCount n ws U c d
   direct-asks = hop-asks (f .ready) bc bi (f .sink) ne (direct-sends (f .flow) bi (f .sink) bc le) (direct-takes (f .flow) bi (f .sink) bc le)
 
-  pub direct-flow : {ws′ : List ℤ} {U′ : List ℕ} → Hopped n m (outs ws n) (inns ws n) (outs ws′ n) (inns ws′ n) c i t d → Kept (n * m) ws ws′ → Counted n ws′ U U′ c → Flowing W J L n m ws′ U′ X t (k + d)
+  pub direct-flow : {ws′ : List ℤ} {U′ : List ℕ} → Hopped n m (outs ws n) (inns ws n) (outs ws′ n) (inns ws′ n) c i t d → Kept (n * m) ws ws′ → Counted n ws′ U U′ c → Flowing W P J L n m ws′ U′ X t (k + d)
   direct-flow h e q =
       let g = direct (f .flow) bi (f .sink) bc le x (f .apart) h in
       record {
@@ -134,18 +139,18 @@ module _ {W J L : List ℕ} {n m : ℕ} {ws : List ℤ} {U : List ℕ} {X t k : 
 
 -- ---- one path
 
-module _ (W J L : List ℕ) (n m : ℕ) (ws₀ : List ℤ) (U₀ : List ℕ) (X t k a : ℕ) (Y : List ℕ) (d : ℕ) where
+module _ (W P J L : List ℕ) (n m : ℕ) (ws₀ : List ℤ) (U₀ : List ℕ) (X t k a : ℕ) (Y : List ℕ) (d : ℕ) where
   -- The path from t back to j has been pushed.
   pub record Under (ws : List ℤ) (U : List ℕ) (j : ℕ) : Type 0 where
-    pub before : Flowing W J L n m ws₀ U₀ X t k
-    pub tree : Tree n m (caps W J) (nth L) (outs ws₀ n) (inns ws₀ n) (has X) (has a) (fromOf Y) (viaOf Y) (turnOf Y) (widthOf Y)
-    pub push : Pushing n m (caps W J) (nth L) (outs ws₀ n) (inns ws₀ n) (has X) (has a) (fromOf Y) (viaOf Y) (turnOf Y) (widthOf Y) t k d (outs ws n) (inns ws n) j
+    pub before : Flowing W P J L n m ws₀ U₀ X t k
+    pub tree : Tree n m (caps W P J) (nth L) (outs ws₀ n) (inns ws₀ n) (has X) (has a) (fromOf Y) (viaOf Y) (turnOf Y) (widthOf Y)
+    pub push : Pushing n m (caps W P J) (nth L) (outs ws₀ n) (inns ws₀ n) (has X) (has a) (fromOf Y) (viaOf Y) (turnOf Y) (widthOf Y) t k d (outs ws n) (inns ws n) j
     pub sums : (c : ℕ) → c < m → nth U c ≡ sum n (outs ws n c)
     pub counts : length U ≡ 256
     pub kept : Kept (n * m) ws₀ ws
 
-module _ {W J L : List ℕ} {n m : ℕ} {ws₀ : List ℤ} {U₀ : List ℕ} {X t k a : ℕ} {Y : List ℕ} {d : ℕ} where
-  pub under-start : {goal : ℕ} → Flowing W J L n m ws₀ U₀ X t k → Found W J L n m ws₀ X a Y goal → has a t ≡ true → d ≤ widthOf Y t → Under W J L n m ws₀ U₀ X t k a Y d ws₀ U₀ t
+module _ {W P J L : List ℕ} {n m : ℕ} {ws₀ : List ℤ} {U₀ : List ℕ} {X t k a : ℕ} {Y : List ℕ} {d : ℕ} where
+  pub under-start : {goal : ℕ} → Flowing W P J L n m ws₀ U₀ X t k → Found W P J L n m ws₀ X a Y goal → has a t ≡ true → d ≤ widthOf Y t → Under W P J L n m ws₀ U₀ X t k a Y d ws₀ U₀ t
   under-start f r h l = record {
     before = f;
     tree = r .tree;
@@ -155,11 +160,11 @@ module _ {W J L : List ℕ} {n m : ℕ} {ws₀ : List ℤ} {U₀ : List ℕ} {X 
     kept = kept-none (n * m) ws₀;
   }
 
-  module _ {ws : List ℤ} {U : List ℕ} {j : ℕ} (u : Under W J L n m ws₀ U₀ X t k a Y d ws U j) where
+  module _ {ws : List ℤ} {U : List ℕ} {j : ℕ} (u : Under W P J L n m ws₀ U₀ X t k a Y d ws U j) where
     pub under-low : j < 64
     under-low = omega (arith, u .tree .low j (u .push .held), u .before .ready .net .taxa)
 
-    ready : Ready W J L n m ws U
+    ready : Ready W P J L n m ws U
     ready = record { net = u .before .ready .net; places = omega (arith, u .before .ready .places, u .kept .long); counts = u .counts; column = u .push .column; sums = u .sums }
 
     -- The sources alone have turn 0.
@@ -170,7 +175,7 @@ module _ {W J L : List ℕ} {n m : ℕ} {ws₀ : List ℤ} {U₀ : List ℕ} {X 
     is-root p = ⊎-elim (λ h. h) (λ ne. absurd (omega (arith, u .tree .link j (u .push .held) ne .earlier))) (true? (has X j))
 
     module _ (ne : has X j ≡ false) where
-      link : Link n m (caps W J) (nth L) (outs ws₀ n) (inns ws₀ n) (has X) (has a) (fromOf Y) (viaOf Y) (turnOf Y) (widthOf Y) j
+      link : Link n m (caps W P J) (nth L) (outs ws₀ n) (inns ws₀ n) (has X) (has a) (fromOf Y) (viaOf Y) (turnOf Y) (widthOf Y) j
       link = u .tree .link j (u .push .held) ne
 
       pub under-turn : turnOf Y (fromOf Y j) < turnOf Y j
@@ -180,7 +185,7 @@ module _ {W J L : List ℕ} {n m : ℕ} {ws₀ : List ℤ} {U₀ : List ℕ} {X 
       can-hop = hop-asks ready (link .via-m) (link .from-n) (u .tree .low j (u .push .held)) (apart (u .tree) (u .push) ne) (sends (u .tree) (u .push) ne) (takes (u .tree) (u .push) ne)
 
       pub under-step : {ws′ : List ℤ} {U′ : List ℕ} → Hopped n m (outs ws n) (inns ws n) (outs ws′ n) (inns ws′ n) (viaOf Y j) (fromOf Y j) j d → Kept (n * m) ws ws′ → Counted n ws′ U U′ (viaOf Y j)
-          → Under W J L n m ws₀ U₀ X t k a Y d ws′ U′ (fromOf Y j)
+          → Under W P J L n m ws₀ U₀ X t k a Y d ws′ U′ (fromOf Y j)
       under-step {ws′} {U′} h e q = record {
         before = u .before;
         tree = u .tree;
@@ -190,7 +195,7 @@ module _ {W J L : List ℕ} {n m : ℕ} {ws₀ : List ℤ} {U₀ : List ℕ} {X 
         kept = kept-then (u .kept) e;
       }
 
-  pub under-end : {ws : List ℤ} {U : List ℕ} {j : ℕ} → Under W J L n m ws₀ U₀ X t k a Y d ws U j → has X j ≡ true → Flowing W J L n m ws U X t (k + d)
+  pub under-end : {ws : List ℤ} {U : List ℕ} {j : ℕ} → Under W P J L n m ws₀ U₀ X t k a Y d ws U j → has X j ≡ true → Flowing W P J L n m ws U X t (k + d)
   under-end {j = j} u h = record { ready = ready u; flow = push-end (u .push) (u .tree .low j (u .push .held)) h; sources = u .before .sources; sink = u .before .sink; apart = u .before .apart }
 
 -- ---- no flow, in a cleared workspace
@@ -198,8 +203,8 @@ module _ {W J L : List ℕ} {n m : ℕ} {ws₀ : List ℤ} {U₀ : List ℕ} {X 
 pub none-used : {m : ℕ} → m ≤ 256 → Unused (replicate 256 0) m
 none-used b = record { long = refl; is = λ c l. getD-replicate 256 c 0 0 (omega arith) }
 
-module _ {W J L : List ℕ} {n m : ℕ} (z : Net W J L n m) (ws : List ℤ) (places : n * m ≤ length ws) {U : List ℕ} (un : Unused U m) where
-  pub no-ready : Ready W J L n m (cleared (n * m) ws) U
+module _ {W P J L : List ℕ} {n m : ℕ} (z : Net W P J L n m) (ws : List ℤ) (places : n * m ≤ length ws) {U : List ℕ} (un : Unused U m) where
+  pub no-ready : Ready W P J L n m (cleared (n * m) ws) U
   no-ready = record {
     net = z;
     places = omega (arith, cleared-kept {k = n * m} ws refl places .long);
@@ -217,7 +222,7 @@ module _ {W J L : List ℕ} {n m : ℕ} (z : Net W J L n m) (ws : List ℤ) (pla
       none : (c : ℕ) → c < m → sum n (outs (cleared (n * m) ws) n c) ≡ 0
       none c b = sum-none n (λ i bi. out-0 n m ws c i b bi)
 
-  pub no-flow : {X t : ℕ} → X < 2 ^ n → t < n → has X t ≡ false → Flowing W J L n m (cleared (n * m) ws) U X t 0
+  pub no-flow : {X t : ℕ} → X < 2 ^ n → t < n → has X t ≡ false → Flowing W P J L n m (cleared (n * m) ws) U X t 0
   no-flow {X} {t} fits bt off = record {
     ready = no-ready;
     flow = record { column = no-ready .column; through = λ i bi p q. all i bi; source = omega (arith, sum-≡ n {g = inside (has X) (λ i. sum m (λ c. outs (cleared (n * m) ws) n c i))} {h = inside (has X) (λ i. sum m (λ c. inns (cleared (n * m) ws) n c i))} (λ i bi. cond-≡ (has X i) (λ h. all i bi))) };
@@ -231,22 +236,22 @@ module _ {W J L : List ℕ} {n m : ℕ} (z : Net W J L n m) (ws : List ℤ) (pla
 
 -- ---- t was not reached, or the path to it was pushed
 
-module _ {W J L : List ℕ} {n m : ℕ} {X t k a : ℕ} where
-  pub stayed : {ws : List ℤ} {U Y : List ℕ} {goal : ℕ} → Flowing W J L n m ws U X t k → Found W J L n m ws X a Y goal → goal ≡ 2 ^ t → has a t ≡ false → Advanced W J L n m ws U X t k k a
+module _ {W P J L : List ℕ} {n m : ℕ} {X t k a : ℕ} where
+  pub stayed : {ws : List ℤ} {U Y : List ℕ} {goal : ℕ} → Flowing W P J L n m ws U X t k → Found W P J L n m ws X a Y goal → goal ≡ 2 ^ t → has a t ≡ false → Advanced W P J L n m ws U X t k k a
   stayed f r e h = record {
     stage = record { flowing = f; side = λ q. record { low = r .tree .low; all = r .all (record { none = λ x p. ap (has a) (pow-in t (record { is = ap (λ (y : ℕ). has y x) (sym e) ∙ p })) ∙ h }) } };
     more = omega arith;
     pushed = λ q. absurd (true≢false (sym q ∙ h));
   }
 
-  pub went : {ws₀ ws : List ℤ} {U₀ U Y : List ℕ} {d j : ℕ} → Under W J L n m ws₀ U₀ X t k a Y d ws U j → has X j ≡ true → has a t ≡ true → 0 < d → Advanced W J L n m ws U X t k (k + d) a
+  pub went : {ws₀ ws : List ℤ} {U₀ U Y : List ℕ} {d j : ℕ} → Under W P J L n m ws₀ U₀ X t k a Y d ws U j → has X j ≡ true → has a t ≡ true → 0 < d → Advanced W P J L n m ws U X t k (k + d) a
   went u e h p = record { stage = record { flowing = under-end u e; side = λ q. absurd (true≢false (sym h ∙ q)) }; more = omega arith; pushed = λ q. omega arith }
 
 -- Each path makes the flow larger, or is the last.
 pub rest-of : ℕ → Bool → ℕ
-rest-of k a = 2 * (16776960 - k) + cond a 1 0
+rest-of k a = 2 * (flowMost - k) + cond a 1 0
 
-pub falls : (k k′ : ℕ) (a b : Bool) → a ≡ true → k ≤ k′ → (b ≡ true → k < k′) → k′ ≤ 16776960 → rest-of k′ b < rest-of k a
+pub falls : (k k′ : ℕ) (a b : Bool) → a ≡ true → k ≤ k′ → (b ≡ true → k < k′) → k′ ≤ flowMost → rest-of k′ b < rest-of k a
 unfolding rest-of
 falls k k′ true true e l p s = let q = p refl in omega arith
 falls k k′ true false e l p s = omega arith

@@ -8,14 +8,14 @@ use native.Mathlib.Omega.{arith}
 use lib.IntN.{ℤ}
 use lib.ListN.{length, set, length-set}
 use lib.Seq.{getD-set-same, getD-set-other}
-use Rattle.taxa.specs.Sets.{has, all, _⊆_, _∩_, _∪_, _∖_, count}
+use Rattle.taxa.specs.Sets.{has, all, _⊆_, _∩_, _∪_, _∖_, count, multiplicityIn}
 use Rattle.taxa.proofs.Digits.{has-none}
 use Rattle.taxa.proofs.Counts.{count-in, count-insert}
 use Rattle.taxa.proofs.Members.{below, in-insert, in-remove, in∩, in∖, out, same-bool, disjoint-∩, ∩-disjoint, ⊆-refl, ⊆-≤, in-all}
 use Rattle.method.proofs.Carry.{up, down, room, most, carry}
 use Rattle.search.specs.Workspace.{outs, inns, Entry}
 use Rattle.method.proofs.HopTree.{Joined}
-use Rattle.search.specs.Network.{nth, caps, Ready}
+use Rattle.search.specs.Network.{nth, arc, caps, Ready}
 use Rattle.search.specs.Reaching.{fromOf, viaOf, turnOf, widthOf, carried, IsGate, Rooted, Grow, Leads, Offered, stays, joins, Passed, Crossed, Missed, Swept, Planted, Found}
 use Rattle.search.proofs.Workspace.{slot-lt}
 use Rattle.method.proofs.Carry.{same?, carry-up, carry-open}
@@ -25,23 +25,23 @@ use Rattle.method.proofs.Sweep.{leads-open, leads-full, send-start, send-end, s
 
 -- ---- what a column joins
 
-pub caps-in : (W J : List ℕ) (c i : ℕ) → has (nth J c) i ≡ true → caps W J c i ≡ nth W c
+pub caps-in : (W P J : List ℕ) (c i : ℕ) → has (nth J c) i ≡ true → caps W P J c i ≡ arc W P c i
 unfolding caps
-caps-in W J c i h = rw h
+caps-in W P J c i h = rw h
 
 cond-some : (b : Bool) (w : ℕ) → 0 < cond b w 0 → b ≡ true
 cond-some true w h = refl
 cond-some false w h = absurd (omega arith)
 
-pub in-caps : (W J : List ℕ) (c i : ℕ) → 0 < caps W J c i → has (nth J c) i ≡ true
+pub in-caps : (W P J : List ℕ) (c i : ℕ) → 0 < caps W P J c i → has (nth J c) i ≡ true
 unfolding caps
-in-caps W J c i h = cond-some (has (nth J c) i) (nth W c) h
+in-caps W P J c i h = cond-some (has (nth J c) i) (arc W P c i) h
 
-module _ {W J L : List ℕ} {n m : ℕ} {ws : List ℤ} {U : List ℕ} (r : Ready W J L n m ws U) {c : ℕ} (bc : c < m) where
-  pub entry : (j : ℕ) → has (nth J c) j ≡ true → Entry ws n c j (nth W c)
+module _ {W P J L : List ℕ} {n m : ℕ} {ws : List ℤ} {U : List ℕ} (r : Ready W P J L n m ws U) {c : ℕ} (bc : c < m) where
+  pub entry : (j : ℕ) → has (nth J c) j ≡ true → Entry ws n c j (arc W P c j)
   entry j h =
       let bj = r .net .low c bc j h in
-      let e = caps-in W J c j h in
+      let e = caps-in W P J c j h in
       record {
         place = omega (arith, slot-lt n m c j bc bj, r .places);
         out = omega (arith, r .column c bc .out-fits j bj);
@@ -52,24 +52,24 @@ module _ {W J L : List ℕ} {n m : ℕ} {ws : List ℤ} {U : List ℕ} (r : Read
   used-fits = omega (arith, r .sums c bc, r .column c bc .limit)
 
   -- A hop joins taxa of the column.
-  pub hop-joins : {i x : ℕ} → i < n → x < n → 0 < carried W J L n ws c i x → (has (nth J c) i ≡ true) × (has (nth J c) x ≡ true)
+  pub hop-joins : {i x : ℕ} → i < n → x < n → 0 < carried W P J L n ws c i x → (has (nth J c) i ≡ true) × (has (nth J c) x ≡ true)
   hop-joins {i} {x} bi bx p =
       let h = carry-open (r .column c bc) bi bx p in
-      (in-caps W J c i (omega (arith, h .up)), in-caps W J c x (omega (arith, h .down)))
+      (in-caps W P J c i (omega (arith, h .up)), in-caps W P J c x (omega (arith, h .down)))
 
-  module _ {i w u b v : ℕ} (g : IsGate W L U n ws c i w u b v) (hi : has (nth J c) i ≡ true) where
-    pub gate-up : u ≡ up n (caps W J c) (nth L c) (outs ws n c) (inns ws n c) i
+  module _ {i w u b v : ℕ} (g : IsGate W P L U n ws c i w u b v) (hi : has (nth J c) i ≡ true) where
+    pub gate-up : u ≡ up n (caps W P J c) (nth L c) (outs ws n c) (inns ws n c) i
     unfolding up
-    gate-up = rw (caps-in W J c i hi) (g .is-sends)
+    gate-up = rw (caps-in W P J c i hi) (g .is-sends)
 
-    pub gate-free : max b v ≡ max (inns ws n c i) (room n (caps W J c) (nth L c) (outs ws n c) (inns ws n c))
+    pub gate-free : max b v ≡ max (inns ws n c i) (room n (caps W P J c) (nth L c) (outs ws n c) (inns ws n c))
     unfolding room
     gate-free = rw (g .is-back, g .is-room, r .sums c bc)
 
     -- The formula of the code is what the hop carries.
-    pub gate-carry : (j : ℕ) → has (nth J c) j ≡ true → min (min u (w + outs ws n c j - inns ws n c j)) (max (max b (outs ws n c j)) v) ≡ carried W J L n ws c i j
+    pub gate-carry : (j : ℕ) → has (nth J c) j ≡ true → min (min u (w * multiplicityIn P j + outs ws n c j - inns ws n c j)) (max (max b (outs ws n c j)) v) ≡ carried W P J L n ws c i j
     unfolding carry most down room
-    gate-carry j h = rw (gate-up, g .is-weight, g .is-back, g .is-room, r .sums c bc, caps-in W J c j h)
+    gate-carry j h = rw (gate-up, g .is-weight, g .is-back, g .is-room, r .sums c bc, caps-in W P J c j h)
 
 -- ---- one taxon joins
 
@@ -148,13 +148,13 @@ hit {goal} {a} p h = omega (arith, disjoint-∩ {x = goal} {y = a} (record { off
 
 -- ---- who sends
 
-module _ (W J L : List ℕ) (n : ℕ) (ws : List ℤ) (c x : ℕ) where
+module _ (W P J L : List ℕ) (n : ℕ) (ws : List ℤ) (c x : ℕ) where
   -- What taxon i can send through the column, and whether it turns flow back or finds room.
   abbrev pub sendsOf : ℕ → ℕ
-  sendsOf = up n (caps W J c) (nth L c) (outs ws n c) (inns ws n c)
+  sendsOf = up n (caps W P J c) (nth L c) (outs ws n c) (inns ws n c)
 
   abbrev pub freeOf : ℕ → ℕ
-  freeOf i = max (inns ws n c i) (room n (caps W J c) (nth L c) (outs ws n c) (inns ws n c))
+  freeOf i = max (inns ws n c i) (room n (caps W P J c) (nth L c) (outs ws n c) (inns ws n c))
 
   -- Of the taxa of x without those of l none leads everywhere, and `found` is one that sends, if one does.
   pub record Seeks (l found : ℕ) : Type 0 where
@@ -162,22 +162,22 @@ module _ (W J L : List ℕ) (n : ℕ) (ws : List ℤ) (c x : ℕ) where
     pub held : found ≢ 64 → (has x found ≡ true) × (0 < sendsOf found)
     pub passed : (y : ℕ) → has x y ≡ true → has l y ≡ false → 0 < sendsOf y → (found ≢ 64) × (freeOf y ≡ 0)
 
-module _ {W J L : List ℕ} {n : ℕ} {ws : List ℤ} {c x : ℕ} where
-  pub seek-start : Seeks W J L n ws c x x 64
+module _ {W P J L : List ℕ} {n : ℕ} {ws : List ℤ} {c x : ℕ} where
+  pub seek-start : Seeks W P J L n ws c x x 64
   seek-start = record { inside = ⊆-refl x; held = λ ne. absurd (ne refl); passed = λ y h k. absurd (true≢false (sym h ∙ k)) }
 
-  pub seek-found : {i : ℕ} → has x i ≡ true → 0 < sendsOf W J L n ws c x i → 0 < freeOf W J L n ws c x i → i < 64 → Leads W J L n ws c x i
-  seek-found {i} h u f b = record { held = λ ne. h; sends = λ y j k p. (λ e. omega arith, leads-open n (caps W J c) (nth L c) (outs ws n c) (inns ws n c) i y j u p f) }
+  pub seek-found : {i : ℕ} → has x i ≡ true → 0 < sendsOf W P J L n ws c x i → 0 < freeOf W P J L n ws c x i → i < 64 → Leads W P J L n ws c x i
+  seek-found {i} h u f b = record { held = λ ne. h; sends = λ y j k p. (λ e. omega arith, leads-open n (caps W P J c) (nth L c) (outs ws n c) (inns ws n c) i y j u p f) }
 
-  pub seek-end : {found : ℕ} → Seeks W J L n ws c x 0 found → Leads W J L n ws c x found
+  pub seek-end : {found : ℕ} → Seeks W P J L n ws c x 0 found → Leads W P J L n ws c x found
   seek-end {found} k = record { held = λ ne. k .held ne .0; sends = sends }
     where
-      sends : (y j : ℕ) → has x y ≡ true → 0 < carried W J L n ws c y j → (found ≢ 64) × (0 < carried W J L n ws c found j)
+      sends : (y j : ℕ) → has x y ≡ true → 0 < carried W P J L n ws c y j → (found ≢ 64) × (0 < carried W P J L n ws c found j)
       sends y j h p =
-          let q = k .passed y h (has-none y) (omega (arith, carry-up n (caps W J c) (nth L c) (outs ws n c) (inns ws n c) y j)) in
-          (q .0, leads-full n (caps W J c) (nth L c) (outs ws n c) (inns ws n c) found y j (k .held (q .0) .1) p (q .1))
+          let q = k .passed y h (has-none y) (omega (arith, carry-up n (caps W P J c) (nth L c) (outs ws n c) (inns ws n c) y j)) in
+          (q .0, leads-full n (caps W P J c) (nth L c) (outs ws n c) (inns ws n c) found y j (k .held (q .0) .1) p (q .1))
 
-  module _ {l found : ℕ} (k : Seeks W J L n ws c x l found) (i : ℕ) {l′ : ℕ} (h : has l i ≡ true) (q : l′ ≡ l ∖ 2 ^ i) where
+  module _ {l found : ℕ} (k : Seeks W P J L n ws c x l found) (i : ℕ) {l′ : ℕ} (h : has l i ≡ true) (q : l′ ≡ l ∖ 2 ^ i) where
     less : l′ ⊆ x
     less = record { sub = λ p. k .inside .sub (in-remove l i .0 (rw q at p) .0) }
 
@@ -185,26 +185,26 @@ module _ {W J L : List ℕ} {n : ℕ} {ws : List ℤ} {c x : ℕ} where
     gone y e = gone-one l i y (ap (λ (z : ℕ). has z y) (sym q) ∙ e)
 
     -- Taxon i cannot send.
-    pub seek-skip : sendsOf W J L n ws c x i ≡ 0 → Seeks W J L n ws c x l′ found
-    seek-skip z = record { inside = less; held = k .held; passed = λ y e f u. ⊎-elim (λ g. k .passed y e g u) (λ g. absurd (omega (arith, ap (sendsOf W J L n ws c x) g))) (gone y f) }
+    pub seek-skip : sendsOf W P J L n ws c x i ≡ 0 → Seeks W P J L n ws c x l′ found
+    seek-skip z = record { inside = less; held = k .held; passed = λ y e f u. ⊎-elim (λ g. k .passed y e g u) (λ g. absurd (omega (arith, ap (sendsOf W P J L n ws c x) g))) (gone y f) }
 
     -- It can, but turns nothing back and finds no room.
-    pub seek-take : 0 < sendsOf W J L n ws c x i → freeOf W J L n ws c x i ≡ 0 → i < 64 → Seeks W J L n ws c x l′ i
+    pub seek-take : 0 < sendsOf W P J L n ws c x i → freeOf W P J L n ws c x i ≡ 0 → i < 64 → Seeks W P J L n ws c x l′ i
     seek-take v z b = record {
       inside = less;
       held = λ ne. (k .inside .sub (record { is = h }) .is, v);
-      passed = λ y e f u. (λ g. omega arith, ⊎-elim (λ g. k .passed y e g u .1) (λ g. ap (freeOf W J L n ws c x) g ∙ z) (gone y f));
+      passed = λ y e f u. (λ g. omega arith, ⊎-elim (λ g. k .passed y e g u .1) (λ g. ap (freeOf W P J L n ws c x) g ∙ z) (gone y f));
     }
 
 -- ---- the hops of i through one column
 
-module _ {W J L : List ℕ} {n m : ℕ} {ws : List ℤ} {X a : ℕ} {Y : List ℕ} {i c t : ℕ} (g : Grow W J L n m ws X a Y i c t) where
+module _ {W P J L : List ℕ} {n m : ℕ} {ws : List ℤ} {X a : ℕ} {Y : List ℕ} {i c t : ℕ} (g : Grow W P J L n m ws X a Y i c t) where
   wide : 0 < widthOf Y i
   wide = ⊎-elim (g .sending .tree .wide i) (λ ne. g .sending .tree .link i (g .sending .held) ne .some) (true? (has X i))
 
 -- Nothing was passed yet: all that the column joins and that is not met lies ahead.
-pub pass-start : {W J L : List ℕ} {n m : ℕ} {ws : List ℤ} {X a : ℕ} {Y U : List ℕ} {i : ℕ} (c : ℕ) → Ready W J L n m ws U → Rooted W J L n m ws X a Y → c < m → has a i ≡ true
-    → Passed W J L n m ws X a a Y i c (nth J c ∖ a)
+pub pass-start : {W P J L : List ℕ} {n m : ℕ} {ws : List ℤ} {X a : ℕ} {Y U : List ℕ} {i : ℕ} (c : ℕ) → Ready W P J L n m ws U → Rooted W P J L n m ws X a Y → c < m → has a i ≡ true
+    → Passed W P J L n m ws X a a Y i c (nth J c ∖ a)
 pass-start {J = J} {a = a} {i = i} c r g bc h = record {
   tree = record { sending = send-start (g .sweeping) h; long = g .long };
   keeps = λ x k. k;
@@ -219,9 +219,9 @@ others (joins z e jd ls) x ne = jd .set-off x ne
 more : (a j : ℕ) → has a j ≡ false → j < 64 → count 64 (a ∪ 2 ^ j) ≡ count 64 a + 1
 more a j new b = count-insert 64 b (λ p. true≢false (sym (p .is) ∙ new))
 
-module _ {W J L : List ℕ} {n m : ℕ} {ws : List ℤ} {X a i a′ a″ : ℕ} {Y′ Y″ : List ℕ} {c j k l : ℕ}
-    (p : Passed W J L n m ws X a a′ Y′ i c l) (bc : c < m) (bj : j < n) (b64 : j < 64) (new : has a′ j ≡ false) (e : k ≡ min (carried W J L n ws c i j) (widthOf Y′ i)) where
-  grown : Offered a′ Y′ a″ Y″ j i c (count 64 a) k → (Grow W J L n m ws X a″ Y″ i c (count 64 a)) × ((x : ℕ) → has a′ x ≡ true → has a″ x ≡ true) × (0 < carried W J L n ws c i j → has a″ j ≡ true)
+module _ {W P J L : List ℕ} {n m : ℕ} {ws : List ℤ} {X a i a′ a″ : ℕ} {Y′ Y″ : List ℕ} {c j k l : ℕ}
+    (p : Passed W P J L n m ws X a a′ Y′ i c l) (bc : c < m) (bj : j < n) (b64 : j < 64) (new : has a′ j ≡ false) (e : k ≡ min (carried W P J L n ws c i j) (widthOf Y′ i)) where
+  grown : Offered a′ Y′ a″ Y″ j i c (count 64 a) k → (Grow W P J L n m ws X a″ Y″ i c (count 64 a)) × ((x : ℕ) → has a′ x ≡ true → has a″ x ≡ true) × (0 < carried W P J L n ws c i j → has a″ j ≡ true)
   grown (stays z q f) = (rw (q, f) (p .tree), λ x y. ap (λ (z : ℕ). has z x) q ∙ y, λ p0. absurd (omega (arith, wide (p .tree))))
   grown (joins z q jd ls) = (
     record { sending = rw (q, more a′ j new b64) (send-join (p .tree .sending) (rw q at jd) new bj bc z (omega arith) (omega arith)); long = ls },
@@ -230,7 +230,7 @@ module _ {W J L : List ℕ} {n m : ℕ} {ws : List ℤ} {X a i a′ a″ : ℕ} 
   )
 
   -- One taxon further.
-  pub pass-one : Offered a′ Y′ a″ Y″ j i c (count 64 a) k → {l′ : ℕ} → l′ ≡ l ∖ 2 ^ j → Passed W J L n m ws X a a″ Y″ i c l′
+  pub pass-one : Offered a′ Y′ a″ Y″ j i c (count 64 a) k → {l′ : ℕ} → l′ ≡ l ∖ 2 ^ j → Passed W P J L n m ws X a a″ Y″ i c l′
   pass-one o {l′} q =
       let g = grown o in
       record {
@@ -241,10 +241,10 @@ module _ {W J L : List ℕ} {n m : ℕ} {ws : List ℤ} {X a i a′ a″ : ℕ} 
 
 -- ---- one column
 
-module _ {W J L : List ℕ} {n m : ℕ} {ws : List ℤ} {X : ℕ} {U : List ℕ} (r : Ready W J L n m ws U) {a c : ℕ} (bc : c < m) where
-  module _ {Y : List ℕ} (g : Rooted W J L n m ws X a Y) where
+module _ {W P J L : List ℕ} {n m : ℕ} {ws : List ℤ} {X : ℕ} {U : List ℕ} (r : Ready W P J L n m ws U) {a c : ℕ} (bc : c < m) where
+  module _ {Y : List ℕ} (g : Rooted W P J L n m ws X a Y) where
     -- All that it joins is met ..
-    pub cross-full : nth J c ⊆ a → Crossed W J L n m ws X a a Y c
+    pub cross-full : nth J c ⊆ a → Crossed W P J L n m ws X a a Y c
     cross-full h = record {
       tree = g;
       keeps = λ x k. k;
@@ -252,15 +252,15 @@ module _ {W J L : List ℕ} {n m : ℕ} {ws : List ℤ} {X : ℕ} {U : List ℕ}
     }
 
     -- The hop joins the sender's set.
-    here : (y x : ℕ) → has a y ≡ true → x < n → 0 < carried W J L n ws c y x → has (nth J c ∩ a) y ≡ true
+    here : (y x : ℕ) → has a y ≡ true → x < n → 0 < carried W P J L n ws c y x → has (nth J c ∩ a) y ≡ true
     here y x k b p = in∩ (nth J c) a .1 (record { is = hop-joins r bc (g .sweeping .tree .low y k) b p .0 }, record { is = k }) .is
 
     -- .. or nobody sends ..
-    pub cross-none : Leads W J L n ws c (nth J c ∩ a) 64 → Crossed W J L n m ws X a a Y c
+    pub cross-none : Leads W P J L n ws c (nth J c ∩ a) 64 → Crossed W P J L n m ws X a a Y c
     cross-none l = record { tree = g; keeps = λ x k. k; into = λ y x k b p. absurd (l .sends y x (here y x k b p) p .0 refl) }
 
     -- .. or the sender's hops lead wherever the others lead.
-    pub cross : {a′ i : ℕ} {Y′ : List ℕ} → Leads W J L n ws c (nth J c ∩ a) i → Passed W J L n m ws X a a′ Y′ i c 0 → Crossed W J L n m ws X a a′ Y′ c
+    pub cross : {a′ i : ℕ} {Y′ : List ℕ} → Leads W P J L n ws c (nth J c ∩ a) i → Passed W P J L n m ws X a a′ Y′ i c 0 → Crossed W P J L n m ws X a a′ Y′ c
     cross l p = record {
       tree = record { sweeping = send-end (p .tree .sending) (λ j b. p .into j b (has-none j)); long = p .tree .long };
       keeps = p .keeps;
@@ -270,16 +270,16 @@ module _ {W J L : List ℕ} {n m : ℕ} {ws : List ℤ} {X : ℕ} {U : List ℕ}
 -- ---- the columns one after the other
 
 -- The tree, of a before, after the hops of the taxa of a through the columns from `first` to below l.
-pub record Over (W J L : List ℕ) (n m : ℕ) (ws : List ℤ) (X a a′ : ℕ) (Y : List ℕ) (first l : ℕ) : Type 0 where
-  pub tree : Rooted W J L n m ws X a′ Y
+pub record Over (W P J L : List ℕ) (n m : ℕ) (ws : List ℤ) (X a a′ : ℕ) (Y : List ℕ) (first l : ℕ) : Type 0 where
+  pub tree : Rooted W P J L n m ws X a′ Y
   pub keeps : (x : ℕ) → has a x ≡ true → has a′ x ≡ true
-  pub into : (c y x : ℕ) → first ≤ c → c < l → has a y ≡ true → x < n → 0 < carried W J L n ws c y x → has a′ x ≡ true
+  pub into : (c y x : ℕ) → first ≤ c → c < l → has a y ≡ true → x < n → 0 < carried W P J L n ws c y x → has a′ x ≡ true
 
-module _ {W J L : List ℕ} {n m : ℕ} {ws : List ℤ} {X a first : ℕ} where
-  pub over-none : {Y : List ℕ} → Rooted W J L n m ws X a Y → Over W J L n m ws X a a Y first first
+module _ {W P J L : List ℕ} {n m : ℕ} {ws : List ℤ} {X a first : ℕ} where
+  pub over-none : {Y : List ℕ} → Rooted W P J L n m ws X a Y → Over W P J L n m ws X a a Y first first
   over-none g = record { tree = g; keeps = λ x h. h; into = λ c y x f l. absurd (omega arith) }
 
-  pub over-one : {a′ a″ l : ℕ} {Y Y′ : List ℕ} → Over W J L n m ws X a a′ Y first l → Crossed W J L n m ws X a′ a″ Y′ l → Over W J L n m ws X a a″ Y′ first (l + 1)
+  pub over-one : {a′ a″ l : ℕ} {Y Y′ : List ℕ} → Over W P J L n m ws X a a′ Y first l → Crossed W P J L n m ws X a′ a″ Y′ l → Over W P J L n m ws X a a″ Y′ first (l + 1)
   over-one {l = l} u p = record {
     tree = p .tree;
     keeps = λ x h. p .keeps x (u .keeps x h);
@@ -317,9 +317,9 @@ module _ {Y : List ℕ} {X l : ℕ} (p : Planted Y X l) (x w : ℕ) {l′ : ℕ}
 
 -- ---- sweeps
 
-module _ {W J L : List ℕ} {n m : ℕ} {ws : List ℤ} {X : ℕ} where
+module _ {W P J L : List ℕ} {n m : ℕ} {ws : List ℤ} {X : ℕ} where
   -- The tree of the sources alone.
-  pub root-alone : {Y : List ℕ} → n ≤ 64 → X < 2 ^ n → Planted Y X 0 → Rooted W J L n m ws X X Y
+  pub root-alone : {Y : List ℕ} → n ≤ 64 → X < 2 ^ n → Planted Y X 0 → Rooted W P J L n m ws X X Y
   root-alone {Y} l f p = record {
     long = p .long;
     sweeping = record {
@@ -340,11 +340,11 @@ module _ {W J L : List ℕ} {n m : ℕ} {ws : List ℤ} {X : ℕ} where
       low x h = below n f (record { is = h })
 
   -- Its taxa are below n.
-  pub rooted-low : {a : ℕ} {Y : List ℕ} → Rooted W J L n m ws X a Y → a ≤ all n
+  pub rooted-low : {a : ℕ} {Y : List ℕ} → Rooted W P J L n m ws X a Y → a ≤ all n
   rooted-low {a} g = ⊆-≤ {x = a} {y = all n} (record { sub = λ {i} h. in-all n (g .sweeping .tree .low i (h .is)) })
 
   -- A whole sweep of nobody.
-  pub swept-none : {a goal : ℕ} {Y : List ℕ} → Rooted W J L n m ws X a Y → Swept W J L n m ws X 0 a Y goal 0
+  pub swept-none : {a goal : ℕ} {Y : List ℕ} → Rooted W P J L n m ws X a Y → Swept W P J L n m ws X 0 a Y goal 0
   swept-none g = record {
     tree = g;
     keeps = λ x h. absurd (true≢false (sym h ∙ has-none x));
@@ -352,11 +352,11 @@ module _ {W J L : List ℕ} {n m : ℕ} {ws : List ℤ} {X : ℕ} where
   }
 
   -- A whole sweep that met nobody new.
-  pub swept-all : {a a′ goal : ℕ} {Y U : List ℕ} → Ready W J L n m ws U → Swept W J L n m ws X a a′ Y goal 0 → a′ ≤ a → Found W J L n m ws X a Y goal
+  pub swept-all : {a a′ goal : ℕ} {Y U : List ℕ} → Ready W P J L n m ws U → Swept W P J L n m ws X a a′ Y goal 0 → a′ ≤ a → Found W P J L n m ws X a Y goal
   swept-all {a} {a′} {goal} {Y} r v le = rw e at (found v)
     where
       e : a′ ≡ a
       e = omega (arith, ⊆-≤ {x = a} {y = a′} (record { sub = λ {i} h. record { is = v .keeps i (h .is) } }))
 
-      found : Swept W J L n m ws X a a′ Y goal 0 → Found W J L n m ws X a′ Y goal
+      found : Swept W P J L n m ws X a a′ Y goal 0 → Found W P J L n m ws X a′ Y goal
       found u = record { tree = u .tree .sweeping .tree; all = λ h. reached (u .tree .sweeping .tree) (r .column) (λ y k c x bc bx. u .into h c y x (omega arith) bc (ap (λ (z : ℕ). has z y) (sym e) ∙ k) bx) }

@@ -1,4 +1,5 @@
 -- The network of a group in lists: W, J and L hold each column's weight, the taxa that it joins, and what it lets through; U what runs through it.
+-- P holds the multiplicities of the taxa (document 02, C-14).
 use mathlib.Core.Path.{_≡_}
 use mathlib.Core.Bool.{true, cond}
 use mathlib.Core.List.{List}
@@ -6,7 +7,7 @@ use Prim.Native.Nat.{ℕ, _*_, _≤_, _<_}
 use lib.IntN.{ℤ}
 use lib.ListN.{length, getD}
 use Rattle.taxa.specs.Sum.{sum}
-use Rattle.taxa.specs.Sets.{has}
+use Rattle.taxa.specs.Sets.{has, Positive, multiplicityIn}
 use Rattle.method.specs.Flow.{ColumnFlow}
 use Rattle.search.specs.Workspace.{outs, inns}
 
@@ -14,9 +15,20 @@ use Rattle.search.specs.Workspace.{outs, inns}
 abbrev pub nth : List ℕ → ℕ → ℕ
 nth l x = getD l x 0
 
+-- What an arc between column c and taxon i carries: "the column's weight times the taxon's multiplicity".
+abbrev pub arc : List ℕ → List ℕ → ℕ → ℕ → ℕ
+arc W P c i = nth W c * multiplicityIn P i
+
+-- The most that one carries, and the most that 256 of them do: a multiplicity is at most 127.
+abbrev pub arcMost : ℕ
+arcMost = 8322945
+
+abbrev pub flowMost : ℕ
+flowMost = 2130673920
+
 -- What runs at most between column c and taxon i, either way.
-unfoldable pub caps : List ℕ → List ℕ → ℕ → ℕ → ℕ
-caps W J c i = cond (has (nth J c) i) (nth W c) 0
+unfoldable pub caps : List ℕ → List ℕ → List ℕ → ℕ → ℕ → ℕ
+caps W P J c i = cond (has (nth J c) i) (arc W P c i) 0
 
 -- The lent lists that the search counts in and grows its tree in: their room.
 pub record Spare (U Y : List ℕ) : Type 0 where
@@ -35,18 +47,19 @@ pub record Unused (U : List ℕ) (m : ℕ) : Type 0 where
   pub is : (c : ℕ) → c < m → nth U c ≡ 0
 
 -- What the search asks of these lists.
-pub record Net (W J L : List ℕ) (n m : ℕ) : Type 0 where
+pub record Net (W P J L : List ℕ) (n m : ℕ) : Type 0 where
   pub taxa : n ≤ 64
   pub columns : m ≤ 256
   pub weights : m ≤ length W
+  pub positive : Positive (multiplicityIn P)
   pub light : (c : ℕ) → c < m → nth W c < 65536
   pub low : (c : ℕ) → c < m → (i : ℕ) → has (nth J c) i ≡ true → i < n
   pub wide : (c : ℕ) → c < m → (i : ℕ) → has (nth J c) i ≡ true → nth W c ≤ nth L c
 
 -- The net flows of the workspace balance at every column and keep its limits; U counts them.
-pub record Ready (W J L : List ℕ) (n m : ℕ) (ws : List ℤ) (U : List ℕ) : Type 0 where
-  pub net : Net W J L n m
+pub record Ready (W P J L : List ℕ) (n m : ℕ) (ws : List ℤ) (U : List ℕ) : Type 0 where
+  pub net : Net W P J L n m
   pub places : n * m ≤ length ws
   pub counts : length U ≡ 256
-  pub column : (c : ℕ) → c < m → ColumnFlow n (caps W J c) (nth L c) (outs ws n c) (inns ws n c)
+  pub column : (c : ℕ) → c < m → ColumnFlow n (caps W P J c) (nth L c) (outs ws n c) (inns ws n c)
   pub sums : (c : ℕ) → c < m → nth U c ≡ sum n (outs ws n c)

@@ -12,7 +12,7 @@ use Rattle.search.specs.Workspace.{outs, inns}
 use Rattle.method.proofs.Carry.{carry}
 use Rattle.method.proofs.HopTree.{Tree, Joined}
 use Rattle.method.proofs.Sweep.{Sweeping, Sending}
-use Rattle.search.specs.Network.{nth, caps}
+use Rattle.search.specs.Network.{nth, arc, caps}
 
 -- From which taxon x was reached.
 abbrev pub fromOf : List ℕ → ℕ → ℕ
@@ -31,30 +31,30 @@ abbrev pub widthOf : List ℕ → ℕ → ℕ
 widthOf Y x = nth Y (4 * x + 3)
 
 -- What a hop from i to j through c carries, in the workspace.
-abbrev pub carried : List ℕ → List ℕ → List ℕ → ℕ → List ℤ → ℕ → ℕ → ℕ → ℕ
-carried W J L n ws c i j = carry n (caps W J c) (nth L c) (outs ws n c) (inns ws n c) i j
+abbrev pub carried : List ℕ → List ℕ → List ℕ → List ℕ → ℕ → List ℤ → ℕ → ℕ → ℕ → ℕ
+carried W P J L n ws c i j = carry n (caps W P J c) (nth L c) (outs ws n c) (inns ws n c) i j
 
 -- What a taxon i that column c joins finds there: the weight, what it can send, what it can turn back, and the column's room.
-pub record IsGate (W L U : List ℕ) (n : ℕ) (ws : List ℤ) (c i weight sends back room : ℕ) : Type 0 where
+pub record IsGate (W P L U : List ℕ) (n : ℕ) (ws : List ℤ) (c i weight sends back room : ℕ) : Type 0 where
   pub is-weight : weight ≡ nth W c
-  pub is-sends : sends ≡ nth W c + inns ws n c i - outs ws n c i
+  pub is-sends : sends ≡ arc W P c i + inns ws n c i - outs ws n c i
   pub is-back : back ≡ inns ws n c i
   pub is-room : room ≡ nth L c - nth U c
 
 -- The tree of the taxa of a.
-pub record Rooted (W J L : List ℕ) (n m : ℕ) (ws : List ℤ) (X a : ℕ) (Y : List ℕ) : Type 0 where
-  pub sweeping : Sweeping n m (caps W J) (nth L) (outs ws n) (inns ws n) (has X) (has a) (fromOf Y) (viaOf Y) (turnOf Y) (widthOf Y) (count 64 a)
+pub record Rooted (W P J L : List ℕ) (n m : ℕ) (ws : List ℤ) (X a : ℕ) (Y : List ℕ) : Type 0 where
+  pub sweeping : Sweeping n m (caps W P J) (nth L) (outs ws n) (inns ws n) (has X) (has a) (fromOf Y) (viaOf Y) (turnOf Y) (widthOf Y) (count 64 a)
   pub long : length Y ≡ 256
 
 -- The same while taxon i sends through column c, and those that join get the turn t.
-pub record Grow (W J L : List ℕ) (n m : ℕ) (ws : List ℤ) (X a : ℕ) (Y : List ℕ) (i c t : ℕ) : Type 0 where
-  pub sending : Sending n m (caps W J) (nth L) (outs ws n) (inns ws n) (has X) (has a) (fromOf Y) (viaOf Y) (turnOf Y) (widthOf Y) i c t (count 64 a)
+pub record Grow (W P J L : List ℕ) (n m : ℕ) (ws : List ℤ) (X a : ℕ) (Y : List ℕ) (i c t : ℕ) : Type 0 where
+  pub sending : Sending n m (caps W P J) (nth L) (outs ws n) (inns ws n) (has X) (has a) (fromOf Y) (viaOf Y) (turnOf Y) (widthOf Y) i c t (count 64 a)
   pub long : length Y ≡ 256
 
 -- i is a taxon of x, and a hop from it through column c leads wherever one from a taxon of x leads; or i is 64, and none of them leads anywhere.
-pub record Leads (W J L : List ℕ) (n : ℕ) (ws : List ℤ) (c x i : ℕ) : Type 0 where
+pub record Leads (W P J L : List ℕ) (n : ℕ) (ws : List ℤ) (c x i : ℕ) : Type 0 where
   pub held : i ≢ 64 → has x i ≡ true
-  pub sends : (y j : ℕ) → has x y ≡ true → 0 < carried W J L n ws c y j → (i ≢ 64) × (0 < carried W J L n ws c i j)
+  pub sends : (y j : ℕ) → has x y ≡ true → 0 < carried W P J L n ws c y j → (i ≢ 64) × (0 < carried W P J L n ws c i j)
 
 -- Taxon j is offered a hop that carries k: it joins, unless that is nothing.
 pub data Offered (a : ℕ) (Y : List ℕ) (a′ : ℕ) (Y′ : List ℕ) (j i c t k : ℕ) : Type 0 where
@@ -63,26 +63,26 @@ pub data Offered (a : ℕ) (Y : List ℕ) (a′ : ℕ) (Y′ : List ℕ) (j i c 
       → Offered a Y a′ Y′ j i c t k
 
 -- The tree, of a before, after the hops of i through column c to all taxa but those of l.
-pub record Passed (W J L : List ℕ) (n m : ℕ) (ws : List ℤ) (X a a′ : ℕ) (Y : List ℕ) (i c l : ℕ) : Type 0 where
-  pub tree : Grow W J L n m ws X a′ Y i c (count 64 a)
+pub record Passed (W P J L : List ℕ) (n m : ℕ) (ws : List ℤ) (X a a′ : ℕ) (Y : List ℕ) (i c l : ℕ) : Type 0 where
+  pub tree : Grow W P J L n m ws X a′ Y i c (count 64 a)
   pub keeps : (x : ℕ) → has a x ≡ true → has a′ x ≡ true
-  pub into : (x : ℕ) → x < n → has l x ≡ false → 0 < carried W J L n ws c i x → has a′ x ≡ true
+  pub into : (x : ℕ) → x < n → has l x ≡ false → 0 < carried W P J L n ws c i x → has a′ x ≡ true
 
 -- The tree, of a before, after the hops of the taxa of a through column c.
-pub record Crossed (W J L : List ℕ) (n m : ℕ) (ws : List ℤ) (X a a′ : ℕ) (Y : List ℕ) (c : ℕ) : Type 0 where
-  pub tree : Rooted W J L n m ws X a′ Y
+pub record Crossed (W P J L : List ℕ) (n m : ℕ) (ws : List ℤ) (X a a′ : ℕ) (Y : List ℕ) (c : ℕ) : Type 0 where
+  pub tree : Rooted W P J L n m ws X a′ Y
   pub keeps : (x : ℕ) → has a x ≡ true → has a′ x ≡ true
-  pub into : (y x : ℕ) → has a y ≡ true → x < n → 0 < carried W J L n ws c y x → has a′ x ≡ true
+  pub into : (y x : ℕ) → has a y ≡ true → x < n → 0 < carried W P J L n ws c y x → has a′ x ≡ true
 
 -- No taxon of the goal is in a.
 pub record Missed (goal a : ℕ) : Type 0 where
   pub none : (x : ℕ) → has goal x ≡ true → has a x ≡ false
 
 -- The tree, of a before, after the hops of the taxa of a through all columns from `first` on; through some, once a taxon of the goal is reached.
-pub record Swept (W J L : List ℕ) (n m : ℕ) (ws : List ℤ) (X a a′ : ℕ) (Y : List ℕ) (goal first : ℕ) : Type 0 where
-  pub tree : Rooted W J L n m ws X a′ Y
+pub record Swept (W P J L : List ℕ) (n m : ℕ) (ws : List ℤ) (X a a′ : ℕ) (Y : List ℕ) (goal first : ℕ) : Type 0 where
+  pub tree : Rooted W P J L n m ws X a′ Y
   pub keeps : (x : ℕ) → has a x ≡ true → has a′ x ≡ true
-  pub into : Missed goal a′ → (c y x : ℕ) → first ≤ c → c < m → has a y ≡ true → x < n → 0 < carried W J L n ws c y x → has a′ x ≡ true
+  pub into : Missed goal a′ → (c y x : ℕ) → first ≤ c → c < m → has a y ≡ true → x < n → 0 < carried W P J L n ws c y x → has a′ x ≡ true
 
 -- The taxa of X but those of l stand in the tree.
 pub record Planted (Y : List ℕ) (X l : ℕ) : Type 0 where
@@ -91,6 +91,6 @@ pub record Planted (Y : List ℕ) (X l : ℕ) : Type 0 where
   pub wide : (x : ℕ) → has X x ≡ true → has l x ≡ false → 0 < widthOf Y x
 
 -- What reaching gives: a tree; and, where no taxon of the goal is in it, exactly the taxa that hops lead to from those of X.
-pub record Found (W J L : List ℕ) (n m : ℕ) (ws : List ℤ) (X a : ℕ) (Y : List ℕ) (goal : ℕ) : Type 0 where
-  pub tree : Tree n m (caps W J) (nth L) (outs ws n) (inns ws n) (has X) (has a) (fromOf Y) (viaOf Y) (turnOf Y) (widthOf Y)
-  pub all : Missed goal a → (j : ℕ) → j < n → has a j ≡ true ↔ ReachFrom n m (caps W J) (nth L) (outs ws n) (inns ws n) (has X) j
+pub record Found (W P J L : List ℕ) (n m : ℕ) (ws : List ℤ) (X a : ℕ) (Y : List ℕ) (goal : ℕ) : Type 0 where
+  pub tree : Tree n m (caps W P J) (nth L) (outs ws n) (inns ws n) (has X) (has a) (fromOf Y) (viaOf Y) (turnOf Y) (widthOf Y)
+  pub all : Missed goal a → (j : ℕ) → j < n → has a j ≡ true ↔ ReachFrom n m (caps W P J) (nth L) (outs ws n) (inns ws n) (has X) j

@@ -6,7 +6,7 @@ use mathlib.Core.Logic.{_↔_}
 use Prim.Native.Nat.{ℕ, _^_, _≤_, _<_}
 use lib.IntN.{ℤ}
 use lib.ListN.{length}
-use Rattle.taxa.specs.Sets.{has, count, low}
+use Rattle.taxa.specs.Sets.{has, count, low, Positive, multiplicityIn}
 use Rattle.method.specs.Split.{Column, divisionCost, side, parted}
 use Rattle.method.specs.Flow.{cap, through, Flow, Reach}
 use Rattle.search.specs.Workspace.{outs, inns}
@@ -16,8 +16,8 @@ use Rattle.search.specs.Network.{nth}
 unfoldable pub colsOf : List ℕ → List ℕ → List ℕ → ℕ → Column
 colsOf W O Z c = record { weight = nth W c; ones = nth O c; zeros = nth Z c }
 
--- m columns, and a group S of at least two of n taxa.
-pub record Given (W O Z : List ℕ) (S n m : ℕ) : Type 0 where
+-- m columns, a group S of at least two of n taxa, and multiplicities of which none is 0.
+pub record Given (W P O Z : List ℕ) (S n m : ℕ) : Type 0 where
   pub taxa : n ≤ 64
   pub columns : m ≤ 256
   pub weights : m ≤ length W
@@ -25,21 +25,22 @@ pub record Given (W O Z : List ℕ) (S n m : ℕ) : Type 0 where
   pub zeros : m ≤ length Z
   pub group : S < 2 ^ n
   pub two : 1 < count n S
+  pub positive : Positive (multiplicityIn P)
 
-module _ (W O Z : List ℕ) (S n m : ℕ) where
-  -- "Arcs between a taxon of S and its columns [..] carry at most w".
+module _ (W P O Z : List ℕ) (S n m : ℕ) where
+  -- "Arcs between a taxon of S and its columns [..] carry at most w", times the taxon's multiplicity.
   abbrev pub capsOf : ℕ → ℕ → ℕ
-  capsOf c = cap n S (colsOf W O Z c)
+  capsOf c = cap n (multiplicityIn P) S (colsOf W O Z c)
 
   -- "The arc through a column at most w x z".
   abbrev pub throughOf : ℕ → ℕ
-  throughOf c = through n S (colsOf W O Z c)
+  throughOf c = through n (multiplicityIn P) S (colsOf W O Z c)
 
   -- "before it is cleared, the workspace holds a flow of the division's cost from s to t, and side A is the taxa still reachable from s past that
   -- flow"; and cost, A and t are what listing every division gives.
   pub record DividedByFlow (ws : List ℤ) (k t A : ℕ) : Type 0 where
     pub flow : Flow n m capsOf throughOf (outs ws n) (inns ws n) (low n S) t k
     pub reached : (i : ℕ) → i < n → has A i ≡ true ↔ Reach n m capsOf throughOf (outs ws n) (inns ws n) (low n S) i
-    pub is-side : A ≡ side n m (colsOf W O Z) S
-    pub is-cost : k ≡ divisionCost n m (colsOf W O Z) S A
+    pub is-side : A ≡ side n (multiplicityIn P) m (colsOf W O Z) S
+    pub is-cost : k ≡ divisionCost n (multiplicityIn P) m (colsOf W O Z) S A
     pub is-parted : t ≡ parted n S A

@@ -6,7 +6,7 @@ use Prim.Native.Nat.{ℕ, _*_, _≤_, _<_}
 use lib.Dec.{ltb}
 use lib.ListN.{length}
 use Rattle.taxa.specs.Sum.{sum}
-use Rattle.taxa.specs.Sets.{has, _∩_, count}
+use Rattle.taxa.specs.Sets.{has, _∩_, mass, count, multiplicityIn}
 use Rattle.method.specs.Flow.{cutCost}
 use Rattle.search.specs.Network.{nth, caps}
 
@@ -16,9 +16,9 @@ pub record Joins (O Z : List ℕ) (S m : ℕ) (J : List ℕ) : Type 0 where
   pub is : (c : ℕ) → c < m → nth J c ≡ cond (ltb 0 (count 64 (nth Z c ∩ S))) (nth O c ∩ S) 0
 
 -- For each column below m, what it lets through.
-pub record Limits (W Z : List ℕ) (S m : ℕ) (L : List ℕ) : Type 0 where
+pub record Limits (W P Z : List ℕ) (S m : ℕ) (L : List ℕ) : Type 0 where
   pub long : length L ≡ 256
-  pub is : (c : ℕ) → c < m → nth L c ≡ nth W c * count 64 (nth Z c ∩ S)
+  pub is : (c : ℕ) → c < m → nth L c ≡ nth W c * mass 64 (multiplicityIn P) (nth Z c ∩ S)
 
 -- What a column of weight w that joins j weighs between taxon u and those of l: w, if it joins u with one of them.
 abbrev pub tie : ℕ → ℕ → ℕ → ℕ → ℕ
@@ -29,21 +29,21 @@ abbrev pub ties : List ℕ → List ℕ → ℕ → ℕ → ℕ → ℕ
 ties W J m l u = sum m (λ c. tie (nth W c) (nth J c) l u)
 
 -- What a set of taxa cuts of the network in the lists.
-abbrev pub costs : List ℕ → List ℕ → List ℕ → ℕ → ℕ → (ℕ → Bool) → ℕ
-costs W J L n m = cutCost n m (caps W J) (nth L)
+abbrev pub costs : List ℕ → List ℕ → List ℕ → List ℕ → ℕ → ℕ → (ℕ → Bool) → ℕ
+costs W P J L n m = cutCost n m (caps W P J) (nth L)
 
-module _ (W J L : List ℕ) (n m S s : ℕ) where
+module _ (W P J L : List ℕ) (n m S s : ℕ) where
   -- Some set with s and without taxon b of S costs k.
   pub record Parts (k b : ℕ) : Type 0 where
     pub other : has S b ≡ true
     pub set : ℕ
     pub with-s : has set s ≡ true
     pub off-b : has set b ≡ false
-    pub costs-k : k ≡ costs W J L n m (has set)
+    pub costs-k : k ≡ costs W P J L n m (has set)
 
   -- The taxa below u have been tried: k is the least that parts one of them from s, and b the first of those that it parts.
   pub record Tried (u k b : ℕ) : Type 0 where
     pub best : Parts k b
     pub below : b < u
-    pub least : (D : ℕ → Bool) (i : ℕ) → D s ≡ true → D i ≡ false → has S i ≡ true → i < u → k ≤ costs W J L n m D
-    pub first : (D : ℕ → Bool) (i : ℕ) → D s ≡ true → D i ≡ false → has S i ≡ true → i < b → k < costs W J L n m D
+    pub least : (D : ℕ → Bool) (i : ℕ) → D s ≡ true → D i ≡ false → has S i ≡ true → i < u → k ≤ costs W P J L n m D
+    pub first : (D : ℕ → Bool) (i : ℕ) → D s ≡ true → D i ≡ false → has S i ≡ true → i < b → k < costs W P J L n m D

@@ -18,16 +18,17 @@ ghost use Rattle.search.specs.Search.{Given, DividedByFlow};
 ghost use Rattle.search.specs.Trying as trying;
 ghost use Rattle.search.specs.Trying.{ties, Joins, Limits, Tried};
 
-// x, unless z is 0.
-fn unless_none(z: u32, x: u64) -> u64
+// x, unless z is empty.
+fn unless_none(z: u64, x: u64) -> u64
     ensures { λ r. ⌜ r ≡ cond (ltb 0 z) x 0 ⌝ }
 {
     if 0 < z { x } else { 0 }
 }
 
-// The network of the group: each column joins its ones in it, if it has a zero there, and lets its weight through for each of its zeros.
+// The network of the group: each column joins its ones in it, if it has a zero there, and lets its weight through for each specimen of its zeros.
 fn network_of(
     weights: &[u16],
+    planes: &[u64; 8],
     ones: &[u64],
     zeros: &[u64],
     group: u64,
@@ -44,18 +45,19 @@ fn network_of(
         × (length (now limits) ≡ 256) ⌝ }
     ensures { λ _. ⌜
         Joins (now (ones .entry)) (now (zeros .entry)) group m (now (joined .exit))
-        × Limits (now (weights .entry)) (now (zeros .entry)) group m (now (limits .exit)) ⌝ }
+        × Limits (now (weights .entry)) (now (planes .entry)) (now (zeros .entry)) group m (now (limits .exit)) ⌝ }
 {
     for c in 0..m {
-        let z = taxa::count_in(zeros[c], group);
+        let z = taxa::common(zeros[c], group);
         joined[c] = unless_none(z, taxa::common(ones[c], group));
-        limits[c] = reach::wide(weights[c]) * z;
+        limits[c] = reach::wide(weights[c]) * taxa::mass_in(planes, z);
     }
 }
 
 // The taxa that hops reach from the sources past no flow.
 fn connected(
     weights: &[u16],
+    planes: &[u64; 8],
     joined: &[u64; 256],
     limits: &[u32; 256],
     n: usize,
@@ -65,16 +67,29 @@ fn connected(
     tree: &mut [u32; 256],
     sources: u64,
 ) -> u64
-    requires { ⌜ Net (now weights) (now joined) (now limits) n m × (n * m ≤ length (now ws)) × (sources < 2 ^ n) × Spare (now used) (now tree) ⌝ }
+    requires { ⌜ Net (now weights) (now planes) (now joined) (now limits) n m × (n * m ≤ length (now ws)) × (sources < 2 ^ n) × Spare (now used) (now tree) ⌝ }
     ensures { λ r. ⌜
-        Side (now (weights .entry)) (now (joined .entry)) (now (limits .entry)) n m (now (ws .exit)) sources r
+        Side (now (weights .entry)) (now (planes .entry)) (now (joined .entry)) (now (limits .entry)) n m (now (ws .exit)) sources r
         × (now (ws .exit) ≡ cleared (n * m) (now (ws .entry)))
         × Spare (now (used .exit)) (now (tree .exit)) ⌝ }
 {
     net::clear(ws, n * m);
     push::unused(used, m);
     // No path came before: the first sweep is left out, and whole ones do.
-    reach::reach(weights, joined, limits, n, m, ws, used, tree, sources, 0, m)
+    reach::reach(
+        weights,
+        planes,
+        joined,
+        limits,
+        n,
+        m,
+        ws,
+        used,
+        tree,
+        sources,
+        0,
+        m,
+    )
 }
 
 // The least cost so far, and the taxon that it was met at first.
@@ -114,6 +129,7 @@ fn tied(weights: &[u16], joined: &[u64; 256], m: usize, lower: u64, u: usize) ->
 // from all of them to u, is what such a set costs at least.
 fn attempt(
     weights: &[u16],
+    planes: &[u64; 8],
     joined: &[u64; 256],
     limits: &[u32; 256],
     group: u64,
@@ -126,15 +142,15 @@ fn attempt(
     u: usize,
 ) -> Best
     requires { ⌜
-        Net (now weights) (now joined) (now limits) n m
+        Net (now weights) (now planes) (now joined) (now limits) n m
         × (n * m ≤ length (now ws))
         × (group < 2 ^ n)
         × (low n group < u)
         × (u < n)
-        × Tried (now weights) (now joined) (now limits) n m group (low n group) u (best .cost) (best .other)
+        × Tried (now weights) (now planes) (now joined) (now limits) n m group (low n group) u (best .cost) (best .other)
         × Spare (now used) (now tree) ⌝ }
     ensures { λ r. ⌜
-        Tried (now (weights .entry)) (now (joined .entry)) (now (limits .entry)) n m group (low n group) (u + 1) (r .cost) (r .other)
+        Tried (now (weights .entry)) (now (planes .entry)) (now (joined .entry)) (now (limits .entry)) n m group (low n group) (u + 1) (r .cost) (r .other)
         × Kept (n * m) (now (ws .entry)) (now (ws .exit))
         × Spare (now (used .exit)) (now (tree .exit)) ⌝ }
 {
@@ -147,6 +163,7 @@ fn attempt(
     }
     let cut = push::largest(
         weights,
+        planes,
         joined,
         limits,
         n,
@@ -171,6 +188,7 @@ fn attempt(
 // The least that parts a taxon of the group from its lowest, the source, and the first such taxon.
 fn cheapest(
     weights: &[u16],
+    planes: &[u64; 8],
     joined: &[u64; 256],
     limits: &[u32; 256],
     group: u64,
@@ -182,20 +200,21 @@ fn cheapest(
     source: u64,
 ) -> Best
     requires { ⌜
-        Net (now weights) (now joined) (now limits) n m
+        Net (now weights) (now planes) (now joined) (now limits) n m
         × (n * m ≤ length (now ws))
         × (group < 2 ^ n)
         × (1 < count n group)
         × (source ≡ 2 ^ low n group)
         × Spare (now used) (now tree) ⌝ }
     ensures { λ r. ⌜
-        Tried (now (weights .entry)) (now (joined .entry)) (now (limits .entry)) n m group (low n group) n (r .cost) (r .other)
+        Tried (now (weights .entry)) (now (planes .entry)) (now (joined .entry)) (now (limits .entry)) n m group (low n group) n (r .cost) (r .other)
         × Kept (n * m) (now (ws .entry)) (now (ws .exit))
         × Spare (now (used .exit)) (now (tree .exit)) ⌝ }
 {
     let t = taxa::lowest(taxa::rest(group)) as usize;
     let cut = push::largest(
         weights,
+        planes,
         joined,
         limits,
         n,
@@ -214,6 +233,7 @@ fn cheapest(
     for u in t + 1..n {
         best = attempt(
             weights,
+            planes,
             joined,
             limits,
             group,
@@ -239,6 +259,7 @@ pub struct Split {
 // The division that document 01 takes. Cost 0 is found without a flow; else the flow of the taxon that is parted stands in the workspace, run last.
 pub fn divide(
     weights: &[u16],
+    planes: &[u64; 8],
     ones: &[u64],
     zeros: &[u64],
     group: u64,
@@ -251,17 +272,28 @@ pub fn divide(
     tree: &mut [u32; 256],
 ) -> Split
     requires { ⌜
-        Given (now weights) (now ones) (now zeros) group n m
+        Given (now weights) (now planes) (now ones) (now zeros) group n m
         × (n * m ≤ length (now ws))
         × Lent (now joined) (now limits) (now used) (now tree) ⌝ }
     ensures { λ r. ⌜
-        DividedByFlow (now (weights .entry)) (now (ones .entry)) (now (zeros .entry)) group n m (now (ws .exit)) (r .cost) (r .other) (r .side)
+        DividedByFlow (now (weights .entry)) (now (planes .entry)) (now (ones .entry)) (now (zeros .entry)) group n m (now (ws .exit)) (r .cost) (r .other) (r .side)
         × Kept (n * m) (now (ws .entry)) (now (ws .exit))
         × Lent (now (joined .exit)) (now (limits .exit)) (now (used .exit)) (now (tree .exit)) ⌝ }
 {
-    network_of(weights, ones, zeros, group, m, joined, limits);
+    network_of(weights, planes, ones, zeros, group, m, joined, limits);
     let source = taxa::single(taxa::lowest(group));
-    let met = connected(weights, joined, limits, n, m, ws, used, tree, source);
+    let met = connected(
+        weights,
+        planes,
+        joined,
+        limits,
+        n,
+        m,
+        ws,
+        used,
+        tree,
+        source,
+    );
     let off = taxa::difference(group, met);
     if 0 < off {
         return Split {
@@ -270,9 +302,22 @@ pub fn divide(
             other: taxa::lowest(off) as usize,
         };
     }
-    let t = cheapest(weights, joined, limits, group, n, m, ws, used, tree, source).other;
+    let t = cheapest(
+        weights,
+        planes,
+        joined,
+        limits,
+        group,
+        n,
+        m,
+        ws,
+        used,
+        tree,
+        source,
+    ).other;
     let cut = push::largest(
         weights,
+        planes,
         joined,
         limits,
         n,

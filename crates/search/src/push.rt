@@ -49,6 +49,7 @@ fn index(x: u32) -> usize
 // If hops reach t, what the path to it carries is pushed along it.
 fn advance(
     weights: &[u16],
+    planes: &[u64; 8],
     joined: &[u64; 256],
     limits: &[u32; 256],
     n: usize,
@@ -60,9 +61,9 @@ fn advance(
     t: usize,
     size: u32,
 ) -> Cut
-    requires { ⌜ Flowing (now weights) (now joined) (now limits) n m (now ws) (now used) sources t size × (length (now tree) ≡ 256) ⌝ }
+    requires { ⌜ Flowing (now weights) (now planes) (now joined) (now limits) n m (now ws) (now used) sources t size × (length (now tree) ≡ 256) ⌝ }
     ensures { λ r. ⌜
-        Advanced (now (weights .entry)) (now (joined .entry)) (now (limits .entry)) n m (now (ws .exit)) (now (used .exit)) sources t size (r .size) (r .side)
+        Advanced (now (weights .entry)) (now (planes .entry)) (now (joined .entry)) (now (limits .entry)) n m (now (ws .exit)) (now (used .exit)) sources t size (r .size) (r .side)
         × Kept (n * m) (now (ws .entry)) (now (ws .exit))
         × (length (now (tree .exit)) ≡ 256) ⌝ }
 {
@@ -71,6 +72,7 @@ fn advance(
     let first = index(tree[4 * t + 1]);
     let met = reach::reach(
         weights,
+        planes,
         joined,
         limits,
         n,
@@ -106,6 +108,7 @@ fn advance(
 // One hop straight from a source to t through column c, if that joins both, carries what it can: the size of the flow with that.
 fn direct_hop(
     weights: &[u16],
+    planes: &[u64; 8],
     joined: &[u64; 256],
     limits: &[u32; 256],
     n: usize,
@@ -117,9 +120,9 @@ fn direct_hop(
     c: usize,
     size: u32,
 ) -> u32
-    requires { ⌜ Flowing (now weights) (now joined) (now limits) n m (now ws) (now used) sources t size × (c < m) ⌝ }
+    requires { ⌜ Flowing (now weights) (now planes) (now joined) (now limits) n m (now ws) (now used) sources t size × (c < m) ⌝ }
     ensures { λ r. ⌜
-        Flowing (now (weights .entry)) (now (joined .entry)) (now (limits .entry)) n m (now (ws .exit)) (now (used .exit)) sources t r
+        Flowing (now (weights .entry)) (now (planes .entry)) (now (joined .entry)) (now (limits .entry)) n m (now (ws .exit)) (now (used .exit)) sources t r
         × Kept (n * m) (now (ws .entry)) (now (ws .exit)) ⌝ }
 {
     if !taxa::contains(joined[c], t as u32) {
@@ -130,8 +133,8 @@ fn direct_hop(
         return size;
     }
     let i = taxa::lowest(here) as usize;
-    let g = reach::gate_at(weights, limits, n, ws, used, c, i);
-    let d = reach::carry_to(g, ws, n, c, t);
+    let g = reach::gate_at(weights, planes, limits, n, ws, used, c, i);
+    let d = reach::carry_to(g, planes, ws, n, c, t);
     step(ws, used, n, m, c, i, t, d);
     size + d
 }
@@ -139,6 +142,7 @@ fn direct_hop(
 // The size of the flow that hops straight from the sources to t make, past none.
 fn direct_hops(
     weights: &[u16],
+    planes: &[u64; 8],
     joined: &[u64; 256],
     limits: &[u32; 256],
     n: usize,
@@ -148,14 +152,27 @@ fn direct_hops(
     sources: u64,
     t: usize,
 ) -> u32
-    requires { ⌜ Flowing (now weights) (now joined) (now limits) n m (now ws) (now used) sources t 0 ⌝ }
+    requires { ⌜ Flowing (now weights) (now planes) (now joined) (now limits) n m (now ws) (now used) sources t 0 ⌝ }
     ensures { λ r. ⌜
-        Flowing (now (weights .entry)) (now (joined .entry)) (now (limits .entry)) n m (now (ws .exit)) (now (used .exit)) sources t r
+        Flowing (now (weights .entry)) (now (planes .entry)) (now (joined .entry)) (now (limits .entry)) n m (now (ws .exit)) (now (used .exit)) sources t r
         × Kept (n * m) (now (ws .entry)) (now (ws .exit)) ⌝ }
 {
     let mut size: u32 = 0;
     for c in 0..m {
-        size = direct_hop(weights, joined, limits, n, m, ws, used, sources, t, c, size);
+        size = direct_hop(
+            weights,
+            planes,
+            joined,
+            limits,
+            n,
+            m,
+            ws,
+            used,
+            sources,
+            t,
+            c,
+            size,
+        );
     }
     size
 }
@@ -185,6 +202,7 @@ pub fn unused(used: &mut [u32; 256], m: usize)
 // A largest flow from the sources to t, from whatever stands in the workspace; it stops once it is no smaller than the bound.
 pub fn largest(
     weights: &[u16],
+    planes: &[u64; 8],
     joined: &[u64; 256],
     limits: &[u32; 256],
     n: usize,
@@ -197,20 +215,20 @@ pub fn largest(
     bound: u32,
 ) -> Cut
     requires { ⌜
-        Net (now weights) (now joined) (now limits) n m
+        Net (now weights) (now planes) (now joined) (now limits) n m
         × (n * m ≤ length (now ws))
         × (sources < 2 ^ n)
         × (t < n)
         × (has sources t ≡ false)
         × Spare (now used) (now tree) ⌝ }
     ensures { λ r. ⌜
-        Largest (now (weights .entry)) (now (joined .entry)) (now (limits .entry)) n m (now (ws .exit)) sources t bound (r .size) (r .side)
+        Largest (now (weights .entry)) (now (planes .entry)) (now (joined .entry)) (now (limits .entry)) n m (now (ws .exit)) sources t bound (r .size) (r .side)
         × Kept (n * m) (now (ws .entry)) (now (ws .exit))
         × Spare (now (used .exit)) (now (tree .exit)) ⌝ }
 {
     net::clear(ws, n * m);
     unused(used, m);
-    let size = direct_hops(weights, joined, limits, n, m, ws, used, sources, t);
+    let size = direct_hops(weights, planes, joined, limits, n, m, ws, used, sources, t);
     // t counts as reached: nothing is known of the side yet.
     let mut cut = Cut {
         size: size,
@@ -219,6 +237,7 @@ pub fn largest(
     while grows(cut.side, t, cut.size, bound) {
         cut = advance(
             weights,
+            planes,
             joined,
             limits,
             n,

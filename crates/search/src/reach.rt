@@ -3,10 +3,11 @@
 use crate::net;
 ghost use mathlib.Core.Path.{_≡_};
 ghost use mathlib.Core.Bool.{true, false};
-ghost use Prim.Native.Nat.{_+_, _-_, _≤_, _<_, _^_, min, max};
+ghost use Prim.Native.Nat.{_+_, _-_, _*_, _≤_, _<_, _^_, min, max};
 ghost use lib.ListN.{length};
-ghost use Rattle.taxa.specs.Sets.{has, _⊆_};
+ghost use Rattle.taxa.specs.Sets.{has, _⊆_, multiplicityIn};
 ghost use Rattle.search.specs.Workspace.{outs, inns, Entry};
+ghost use Rattle.search.specs.Network as network;
 ghost use Rattle.search.specs.Network.{nth, Ready};
 ghost use Rattle.search.specs.Reaching.{IsGate, Rooted, Leads, Offered, Passed, Crossed, Missed, Swept, Planted, Found};
 
@@ -18,7 +19,7 @@ fn greatest(x: u32, y: u32) -> u32
 
 // What more can run one way: up to cap, with `back` to turn back and `used` in use.
 fn spare(cap: u32, back: u32, used: u32) -> u32
-    requires { ⌜ (used ≤ cap) × (cap < 65536) × (back ≤ cap) ⌝ }
+    requires { ⌜ (used ≤ cap) × (cap < 2 ^ 23) × (back ≤ cap) ⌝ }
     ensures { λ r. ⌜ r ≡ cap + back - used ⌝ }
 {
     cap + back - used
@@ -28,6 +29,14 @@ pub fn wide(x: u16) -> u32
     ensures { λ r. ⌜ (r ≡ x) × (r < 65536) ⌝ }
 {
     x as u32
+}
+
+// What the arc between a column of the weight and taxon i carries.
+fn arc(weight: u32, planes: &[u64; 8], i: usize) -> u32
+    requires { ⌜ (weight < 65536) × (i < 64) ⌝ }
+    ensures { λ r. ⌜ (r ≡ weight * multiplicityIn (now (planes .entry)) i) × (r < 2 ^ 23) ⌝ }
+{
+    weight * taxa::multiplicity(planes, i as u32)
 }
 
 // What a taxon finds at a column: the weight, what it can send, what it can turn back, and the column's room.
@@ -40,6 +49,7 @@ pub struct Gate {
 
 pub fn gate_at(
     weights: &[u16],
+    planes: &[u64; 8],
     limits: &[u32; 256],
     n: usize,
     ws: &[i32],
@@ -51,15 +61,17 @@ pub fn gate_at(
         (c < 256)
         × (c < length (now weights))
         × (nth (now weights) c < 65536)
-        × Entry (now ws) n c i (nth (now weights) c)
-        × (nth (now used) c ≤ nth (now limits) c) ⌝ }
+        × Entry (now ws) n c i (network.arc (now weights) (now planes) c i)
+        × (nth (now used) c ≤ nth (now limits) c)
+        × (i < 64) ⌝ }
     ensures { λ r. ⌜
-        IsGate (now (weights .entry)) (now (limits .entry)) (now (used .entry)) n (now (ws .entry)) c i
+        IsGate (now (weights .entry)) (now (planes .entry)) (now (limits .entry)) (now (used .entry)) n (now (ws .entry)) c i
         (r .weight) (r .sends) (r .back) (r .room) ⌝ }
 {
     let weight = wide(weights[c]);
     let back = net::inn_in(ws, n, c, i);
-    let sends = spare(weight, back, net::out_in(ws, n, c, i));
+    let most = arc(weight, planes, i);
+    let sends = spare(most, back, net::out_in(ws, n, c, i));
     Gate {
         weight: weight,
         sends: sends,
@@ -69,14 +81,15 @@ pub fn gate_at(
 }
 
 // What a hop to taxon j carries.
-pub fn carry_to(g: Gate, ws: &[i32], n: usize, c: usize, j: usize) -> u32
-    requires { ⌜ (g .weight < 65536) × Entry (now ws) n c j (g .weight) ⌝ }
+pub fn carry_to(g: Gate, planes: &[u64; 8], ws: &[i32], n: usize, c: usize, j: usize) -> u32
+    requires { ⌜ (g .weight < 65536) × Entry (now ws) n c j (g .weight * multiplicityIn (now planes) j) × (j < 64) ⌝ }
     ensures { λ r. ⌜
-        r ≡ min (min (g .sends) (g .weight + outs (now (ws .entry)) n c j - inns (now (ws .entry)) n c j))
+        r ≡ min (min (g .sends) (g .weight * multiplicityIn (now (planes .entry)) j + outs (now (ws .entry)) n c j - inns (now (ws .entry)) n c j))
         (max (max (g .back) (outs (now (ws .entry)) n c j)) (g .room)) ⌝ }
 {
     let out = net::out_in(ws, n, c, j);
-    let takes = spare(g.weight, out, net::inn_in(ws, n, c, j));
+    let most = arc(g.weight, planes, j);
+    let takes = spare(most, out, net::inn_in(ws, n, c, j));
     taxa::least(
         taxa::least(g.sends, takes),
         greatest(greatest(g.back, out), g.room),
@@ -102,6 +115,7 @@ fn offer(tree: &mut [u32; 256], met: u64, j: usize, i: usize, c: usize, stamp: u
 // a one if it turns flow back or the column has room; where none of those does, any that sends.
 fn sender(
     weights: &[u16],
+    planes: &[u64; 8],
     joined: &[u64; 256],
     limits: &[u32; 256],
     n: usize,
@@ -111,14 +125,14 @@ fn sender(
     c: usize,
     x: u64,
 ) -> usize
-    requires { ⌜ Ready (now weights) (now joined) (now limits) n m (now ws) (now used) × (c < m) × (x ⊆ nth (now joined) c) ⌝ }
-    ensures { λ r. ⌜ Leads (now (weights .entry)) (now (joined .entry)) (now (limits .entry)) n (now (ws .entry)) c x r ⌝ }
+    requires { ⌜ Ready (now weights) (now planes) (now joined) (now limits) n m (now ws) (now used) × (c < m) × (x ⊆ nth (now joined) c) ⌝ }
+    ensures { λ r. ⌜ Leads (now (weights .entry)) (now (planes .entry)) (now (joined .entry)) (now (limits .entry)) n (now (ws .entry)) c x r ⌝ }
 {
     let mut found: usize = 64;
     let mut left = x;
     while 0 < left {
         let i = taxa::lowest(left) as usize;
-        let g = gate_at(weights, limits, n, ws, used, c, i);
+        let g = gate_at(weights, planes, limits, n, ws, used, c, i);
         if 0 < g.sends {
             if 0 < greatest(g.back, g.room) {
                 return i;
@@ -133,6 +147,7 @@ fn sender(
 // The taxa that a hop from i through column c reaches join.
 fn through(
     weights: &[u16],
+    planes: &[u64; 8],
     joined: &[u64; 256],
     limits: &[u32; 256],
     n: usize,
@@ -146,20 +161,20 @@ fn through(
     c: usize,
 ) -> u64
     requires { ⌜
-        Ready (now weights) (now joined) (now limits) n m (now ws) (now used)
-        × Rooted (now weights) (now joined) (now limits) n m (now ws) sources met (now tree)
+        Ready (now weights) (now planes) (now joined) (now limits) n m (now ws) (now used)
+        × Rooted (now weights) (now planes) (now joined) (now limits) n m (now ws) sources met (now tree)
         × (c < m)
         × (has (nth (now joined) c) i ≡ true)
         × (has met i ≡ true) ⌝ }
-    ensures { λ r. ⌜ Passed (now (weights .entry)) (now (joined .entry)) (now (limits .entry)) n m (now (ws .entry)) sources met r (now (tree .exit)) i c 0 ⌝ }
+    ensures { λ r. ⌜ Passed (now (weights .entry)) (now (planes .entry)) (now (joined .entry)) (now (limits .entry)) n m (now (ws .entry)) sources met r (now (tree .exit)) i c 0 ⌝ }
 {
-    let g = gate_at(weights, limits, n, ws, used, c, i);
+    let g = gate_at(weights, planes, limits, n, ws, used, c, i);
     let stamp = taxa::size(met);
     let mut all = met;
     let mut left = taxa::difference(joined[c], met);
     while 0 < left {
         let j = taxa::lowest(left) as usize;
-        let k = taxa::least(carry_to(g, ws, n, c, j), tree[4 * i + 3]);
+        let k = taxa::least(carry_to(g, planes, ws, n, c, j), tree[4 * i + 3]);
         all = offer(tree, all, j, i, c, stamp, k);
         left = taxa::rest(left);
     }
@@ -169,6 +184,7 @@ fn through(
 // The taxa that a hop from a taxon met through column c reaches join.
 fn pass(
     weights: &[u16],
+    planes: &[u64; 8],
     joined: &[u64; 256],
     limits: &[u32; 256],
     n: usize,
@@ -181,21 +197,22 @@ fn pass(
     c: usize,
 ) -> u64
     requires { ⌜
-        Ready (now weights) (now joined) (now limits) n m (now ws) (now used)
-        × Rooted (now weights) (now joined) (now limits) n m (now ws) sources met (now tree)
+        Ready (now weights) (now planes) (now joined) (now limits) n m (now ws) (now used)
+        × Rooted (now weights) (now planes) (now joined) (now limits) n m (now ws) sources met (now tree)
         × (c < m) ⌝ }
-    ensures { λ r. ⌜ Crossed (now (weights .entry)) (now (joined .entry)) (now (limits .entry)) n m (now (ws .entry)) sources met r (now (tree .exit)) c ⌝ }
+    ensures { λ r. ⌜ Crossed (now (weights .entry)) (now (planes .entry)) (now (joined .entry)) (now (limits .entry)) n m (now (ws .entry)) sources met r (now (tree .exit)) c ⌝ }
 {
     if taxa::subset(joined[c], met) {
         return met;
     }
     let here = taxa::common(joined[c], met);
-    let i = sender(weights, joined, limits, n, m, ws, used, c, here);
+    let i = sender(weights, planes, joined, limits, n, m, ws, used, c, here);
     if i == 64 {
         return met;
     }
     through(
         weights,
+        planes,
         joined,
         limits,
         n,
@@ -220,6 +237,7 @@ fn hits(goal: u64, a: u64) -> bool
 // One sweep over the columns from the first that is asked for, until a taxon of the goal is reached.
 fn sweep(
     weights: &[u16],
+    planes: &[u64; 8],
     joined: &[u64; 256],
     limits: &[u32; 256],
     n: usize,
@@ -233,9 +251,9 @@ fn sweep(
     first: usize,
 ) -> u64
     requires { ⌜
-        Ready (now weights) (now joined) (now limits) n m (now ws) (now used)
-        × Rooted (now weights) (now joined) (now limits) n m (now ws) sources met (now tree) ⌝ }
-    ensures { λ r. ⌜ Swept (now (weights .entry)) (now (joined .entry)) (now (limits .entry)) n m (now (ws .entry)) sources met r (now (tree .exit)) goal first ⌝ }
+        Ready (now weights) (now planes) (now joined) (now limits) n m (now ws) (now used)
+        × Rooted (now weights) (now planes) (now joined) (now limits) n m (now ws) sources met (now tree) ⌝ }
+    ensures { λ r. ⌜ Swept (now (weights .entry)) (now (planes .entry)) (now (joined .entry)) (now (limits .entry)) n m (now (ws .entry)) sources met r (now (tree .exit)) goal first ⌝ }
 {
     let mut all = met;
     for c in first..m {
@@ -244,6 +262,7 @@ fn sweep(
         }
         all = pass(
             weights,
+            planes,
             joined,
             limits,
             n,
@@ -277,6 +296,7 @@ fn plant(tree: &mut [u32; 256], sources: u64)
 // follow it: the goal is met soonest where the last path to it came through.
 pub fn reach(
     weights: &[u16],
+    planes: &[u64; 8],
     joined: &[u64; 256],
     limits: &[u32; 256],
     n: usize,
@@ -288,9 +308,9 @@ pub fn reach(
     goal: u64,
     first: usize,
 ) -> u64
-    requires { ⌜ Ready (now weights) (now joined) (now limits) n m (now ws) (now used) × (length (now tree) ≡ 256) × (sources < 2 ^ n) ⌝ }
+    requires { ⌜ Ready (now weights) (now planes) (now joined) (now limits) n m (now ws) (now used) × (length (now tree) ≡ 256) × (sources < 2 ^ n) ⌝ }
     ensures { λ r. ⌜
-        Found (now (weights .entry)) (now (joined .entry)) (now (limits .entry)) n m (now (ws .entry)) sources r (now (tree .exit)) goal
+        Found (now (weights .entry)) (now (planes .entry)) (now (joined .entry)) (now (limits .entry)) n m (now (ws .entry)) sources r (now (tree .exit)) goal
         × (length (now (tree .exit)) ≡ 256) ⌝ }
 {
     plant(tree, sources);
@@ -298,6 +318,7 @@ pub fn reach(
     let mut met: u64 = 0;
     let mut next = sweep(
         weights,
+        planes,
         joined,
         limits,
         n,
@@ -314,6 +335,7 @@ pub fn reach(
         met = next;
         next = sweep(
             weights,
+            planes,
             joined,
             limits,
             n,

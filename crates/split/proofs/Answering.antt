@@ -8,7 +8,7 @@ use lib.Dec.{ltb}
 use lib.IntN.{ℤ}
 use lib.ListN.{length}
 use borrow.Author.Tests.{lt-ltb, le-ltb}
-use Rattle.taxa.specs.Sets.{within, count, all}
+use Rattle.taxa.specs.Sets.{within, Positive, multiplicity, multiplicityIn, count, all}
 use Rattle.taxa.proofs.Members.{⊆-≤, all-<, within-⊆}
 use Rattle.taxa.proofs.Counts.{count-width}
 use Rattle.record.specs.Bytes.{File}
@@ -68,9 +68,9 @@ module _ {file : List ℕ} {S n m room : ℕ} (f : File file) (s : Splittable fi
   two-of-n : 1 < count n S
   two-of-n = omega (arith, s .two, count-width taxa-few below-n)
 
-  module _ {ws os zs : List ℕ} (p : Parallel ws os zs) (long : length ws ≡ m) where
-    pub given : Given ws os zs S n m
-    given = record {
+  module _ {ws P os zs : List ℕ} (p : Parallel ws os zs) (long : length ws ≡ m) where
+    pub given : Positive (multiplicityIn P) → Given ws P os zs S n m
+    given pos = record {
       taxa = taxa-few;
       columns = few-columns f (s .taken);
       weights = omega arith;
@@ -78,15 +78,17 @@ module _ {file : List ℕ} {S n m room : ℕ} (f : File file) (s : Splittable fi
       zeros = omega arith;
       group = below-n;
       two = two-of-n;
+      positive = pos;
     }
 
-  -- The method's answer for columns.
-  abbrev taken-of : ℕ → (ℕ → Column) → Answer
-  taken-of k cols = Taken (splitCost 64 k cols S) (side 64 k cols S) (parted 64 S (side 64 k cols S))
+  -- The method's answer for multiplicities and columns.
+  abbrev taken-of : (ℕ → ℕ) → ℕ → (ℕ → Column) → Answer
+  taken-of μ k cols = Taken (splitCost 64 μ k cols S) (side 64 μ k cols S) (parted 64 S (side 64 μ k cols S))
 
-  pub found : {cols : ℕ → Column} {cost t A : ℕ} → IsSplit m cols S cost A t → cols ≡ column (matrixIn file .columns) → Taken cost A t ≡ splitOf (matrixIn file) S
+  pub found : {μ : ℕ → ℕ} {cols : ℕ → Column} {cost t A : ℕ} → IsSplit μ m cols S cost A t → μ ≡ multiplicity (matrixIn file .multiplicities)
+      → cols ≡ column (matrixIn file .columns) → Taken cost A t ≡ splitOf (matrixIn file) S
   unfolding splitOf
-  found d e = (λ i. Taken (d .is-cost i) (d .is-side i) (d .is-parted i)) ∙ ap₂ taken-of (sym (taken-count f (s .taken))) e
+  found d u e = (λ i. Taken (d .is-cost i) (d .is-side i) (d .is-parted i)) ∙ (λ i. taken-of (u i) (sym (taken-count f (s .taken)) i) (e i))
 
 -- ---- what is left of the workspace
 

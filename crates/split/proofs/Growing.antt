@@ -11,9 +11,9 @@ use native.Mathlib.Omega.{arith}
 use lib.Dec.{eqb}
 use lib.ListN.{length, getD}
 use borrow.Author.Tests.{eqb-true, eqb-false, eq-eqb, ne-eqb}
-use Rattle.taxa.specs.Sets.{_∈_, _⊆_, _∩_, _∪_, _∖_, count, low}
+use Rattle.taxa.specs.Sets.{_∈_, _⊆_, _∩_, _∪_, _∖_, mass, Positive, low}
 use Rattle.taxa.proofs.Members.{in∩, in∖, in∪, ext, empty, none, ⊆-refl, ⊆-trans, ∪-⊆, ∩-⊆ʳ, ∩-≤, ⊆-≤, pow-⊆, in-pow, pow-in, low-in}
-use Rattle.taxa.proofs.Counts.{count-none}
+use Rattle.taxa.proofs.Masses.{mass-none}
 use Rattle.method.specs.Split.{Column, share, Linked, start, step, part}
 use Rattle.method.proofs.Parts.{Apart, part-is}
 use Rattle.method.proofs.Links.{linked-part}
@@ -68,11 +68,11 @@ module _ (S o z met : ℕ) where
   grows-⊇ (on x a) = record { sub = λ h. in∪ met (o ∩ S) .1 (inl h) }
 
   -- A column that adds nothing does not lead out of the taxa met.
-  grows-apart : {r : ℕ} → Grows r → r ≡ met → (k w : ℕ) → share k S met (record { weight = w; ones = o; zeros = z }) ≡ 0
+  grows-apart : {r : ℕ} → Grows r → r ≡ met → (k w : ℕ) (μ : ℕ → ℕ) → share k μ S met (record { weight = w; ones = o; zeros = z }) ≡ 0
   unfolding share
-  grows-apart (off e) same k w = omega (arith, ap (count k) e, count-none k)
-  grows-apart (away e) same k w = omega (arith, ap (count k) e, count-none k)
-  grows-apart (on x a) same k w = omega (arith, ap (count k) outside, count-none k)
+  grows-apart (off e) same k w μ = omega (arith, ap (mass k μ) e, mass-none k μ)
+  grows-apart (away e) same k w μ = omega (arith, ap (mass k μ) e, mass-none k μ)
+  grows-apart (on x a) same k w μ = omega (arith, ap (mass k μ) outside, mass-none k μ)
     where
       outside : o ∩ (S ∖ met) ≡ 0
       outside = empty (λ j h.
@@ -117,15 +117,15 @@ module _ (os zs : List ℕ) {S : ℕ} (fits : S < 2 ^ 64) {met : ℕ} (s : met �
     cols = colsOf ws os zs
 
     -- A sweep that changes nothing leaves every column apart from the rest.
-    swept-apart : after m ≡ met → Apart 64 m cols S met
+    swept-apart : (μ : ℕ → ℕ) → after m ≡ met → Apart 64 μ m cols S met
     unfolding swept colsOf
-    swept-apart same = record { none = λ c b. subst (λ (A : ℕ). share 64 S A (cols c) ≡ 0) (settled c (omega arith)) (each c b) }
+    swept-apart μ same = record { none = λ c b. subst (λ (A : ℕ). share 64 μ S A (cols c) ≡ 0) (settled c (omega arith)) (each c b) }
       where
         settled : (c : ℕ) → c ≤ m → after c ≡ met
         settled c l = ext (subst (λ (A : ℕ). after c ⊆ A) same (more l)) (met-⊆ c)
 
-        each : (c : ℕ) → c < m → share 64 S (after c) (cols c) ≡ 0
-        each c b = grows-apart S (getD os c 0) (getD zs c 0) (after c) (view c (swept-⊆ c)) (settled (suc c) b ∙ sym (settled c (omega arith))) 64 (getD ws c 0)
+        each : (c : ℕ) → c < m → share 64 μ S (after c) (cols c) ≡ 0
+        each c b = grows-apart S (getD os c 0) (getD zs c 0) (after c) (view c (swept-⊆ c)) (settled (suc c) b ∙ sym (settled c (omega arith))) 64 (getD ws c 0) μ
 
     -- A sweep meets only taxa that are linked to those met.
     module _ {i : ℕ} (linked : (j : ℕ) → j ∈ met → Linked 64 m cols S i j) where
@@ -177,8 +177,8 @@ module _ (os zs : List ℕ) (S i : ℕ) where
     }
 
     -- What a sweep does not change is the method's part.
-    pub grown-part : next ≤ met → (ws : List ℕ) → met ≡ part 64 (length os) (colsOf ws os zs) S i
-    grown-part l ws =
+    pub grown-part : next ≤ met → (μ : ℕ → ℕ) → Positive μ → (ws : List ℕ) → met ≡ part 64 μ (length os) (colsOf ws os zs) S i
+    grown-part l μ pos ws =
         let same : next ≡ met = omega (arith, grow-≤) in
-        linked-part 64 (length os) (colsOf ws os zs) S fits (part-is 64 (length os) (colsOf ws os zs) S (g .inside .sub (g .member))) (g .inside) (g .member)
-        (swept-apart os zs fits (g .inside) ws (length os) same) (g .linked ws)
+        linked-part 64 μ (length os) (colsOf ws os zs) S pos fits (part-is 64 μ (length os) (colsOf ws os zs) S (g .inside .sub (g .member))) (g .inside) (g .member)
+        (swept-apart os zs fits (g .inside) ws (length os) μ same) (g .linked ws)

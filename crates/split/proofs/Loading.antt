@@ -6,7 +6,7 @@ use native.Mathlib.Omega.{arith}
 use lib.ListN.{length, getD, set, length-map, List·getD-map, List·getD-eq-default}
 use Rattle.record.specs.Bytes.{numberAt}
 use Rattle.matrix.specs.declared.Column as matrix
-use Rattle.matrix.specs.Matrix.{columnAt, columnIn, columnsFrom, matrixOf}
+use Rattle.matrix.specs.Matrix.{columnsAt, columnAt, columnIn, columnsFrom, matrixOf}
 use Rattle.method.specs.Split.{Column}
 use Rattle.method.specs.Tree.{column}
 use Rattle.search.specs.Search.{colsOf}
@@ -34,8 +34,8 @@ module _ (file : List ℕ) where
   pub file-column : {c : ℕ} → c < columnCount → fileColumns c ≡ columnOf (columnIn file c)
   unfolding column matrixOf
   file-column {c} b =
-      let from : List matrix.Column = columnsFrom file (numberAt 2 file 6) 8 in
-      List·getD-map columnOf from c blank ∙ ap columnOf (column-from file (numberAt 2 file 6) 8 c blank (omega (arith, length-map from columnOf)))
+      let from : List matrix.Column = columnsFrom file (numberAt 2 file 6) (columnsAt file) in
+      List·getD-map columnOf from c blank ∙ ap columnOf (column-from file (numberAt 2 file 6) (columnsAt file) c blank (omega (arith, length-map from columnOf)))
 
   pub no-column : {c : ℕ} → columnCount ≤ c → fileColumns c ≡ columnOf blank
   unfolding column

@@ -10,7 +10,7 @@ use Rattle.record.specs.Bytes.{File}
 use Rattle.matrix.specs.declared.Column as matrix
 use Rattle.matrix.specs.declared.Checked.the-variants.{Taken}
 use Rattle.matrix.specs.Check.{checked}
-use Rattle.matrix.specs.Matrix.{LegalColumn, LegalColumns, none, one, matrixOf}
+use Rattle.matrix.specs.Matrix.{columnsAt, LegalColumn, LegalColumns, none, one, matrixOf}
 use Rattle.matrix.proofs.Taken.{taken-length, taken-taxa, taken-columns, taken-legal}
 use Rattle.method.specs.Tree.{Sound, column}
 use Rattle.split.specs.Columns.{columnOf, matrixIn}
@@ -40,7 +40,7 @@ module _ {file : List ℕ} (f : File file) {n m : ℕ} (taken : Taken n m ≡ ch
   few-pairs = omega (arith, mul-le-mul few-taxa few-columns)
 
   -- Lists of m places take the file's columns.
-  pub can-load : {k : ℕ} → k ≡ m → (k ≡ length (matrixIn file .columns)) × (12 + 22 * k ≤ length file)
+  pub can-load : {k : ℕ} → k ≡ m → (k ≡ length (matrixIn file .columns)) × (columnsAt file + 22 * k ≤ length file)
   can-load long = (long ∙ sym taken-count, omega (arith, taken-length f taken))
 
   -- What the check has seen of a column.
@@ -56,6 +56,8 @@ module _ {file : List ℕ} (f : File file) {n m : ℕ} (taken : Taken n m ≡ ch
       record {
         some = legal .some-taxa;
         few = legal .taxa-fit;
+        positive = legal-positive legal;
+        merged = legal-merged legal;
         columns-few = omega (arith, taken-count, few-columns);
         weighs = λ c b. let (it, is, l) = taken-column b in rw is (l .weighs);
         light = λ c b. let (it, is, l) = taken-column b in rw is (omega (arith, l .weight-fits));

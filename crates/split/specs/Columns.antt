@@ -20,4 +20,4 @@ pub record Parallel (ws os zs : List ℕ) : Type 0 where
 
 -- The matrix in a file, as the method's.
 abbrev pub matrixIn : List ℕ → Matrix
-matrixIn file = record { taxa = matrixOf file .taxa; columns = map columnOf (matrixOf file .columns) }
+matrixIn file = record { taxa = matrixOf file .taxa; multiplicities = matrixOf file .multiplicities; columns = map columnOf (matrixOf file .columns) }

@@ -6,7 +6,7 @@ use Prim.Native.Nat.{ℕ, _*_, _≤_}
 use lib.Dec.{ltb}
 use lib.IntN.{ℤ}
 use lib.ListN.{length}
-use Rattle.taxa.specs.Sets.{_⊆_, within, count, all}
+use Rattle.taxa.specs.Sets.{_⊆_, within, multiplicity, count, all}
 use Rattle.record.specs.Records.{refused}
 use Rattle.matrix.specs.declared.Checked.{Checked}
 use Rattle.matrix.specs.declared.Checked.the-variants as checks
@@ -21,9 +21,10 @@ use Rattle.split.specs.Columns.{matrixIn}
 -- The method's split of a group of a matrix, "unflipped": its cost, its side A, and t.
 unfoldable pub splitOf : Matrix → ℕ → Divided
 splitOf M S =
+    let μ = multiplicity (M .multiplicities) in
     let m = length (M .columns) in
     let cols = column (M .columns) in
-    Taken (splitCost 64 m cols S) (side 64 m cols S) (parted 64 S (side 64 m cols S))
+    Taken (splitCost 64 μ m cols S) (side 64 μ m cols S) (parted 64 S (side 64 μ m cols S))
 
 -- "split: fewer than two taxa, or one that is n or above".
 abbrev pub noGroup : ℕ → ℕ → Bool

@@ -5,7 +5,7 @@ use mathlib.Core.List.{List, _++_}
 use Prim.Native.Nat.{ℕ, zero, suc}
 use lib.Dec.{eqb}
 use lib.ListN.{length, drop, getD}
-use Rattle.taxa.specs.Sets.{_∩_, _∪_}
+use Rattle.taxa.specs.Sets.{_∩_, _∪_, Positive}
 use Rattle.method.specs.Split.{parts}
 use Rattle.search.specs.Search.{colsOf}
 
@@ -18,7 +18,7 @@ unfoldable pub swept : List ℕ → List ℕ → ℕ → ℕ → ℕ → ℕ
 swept os zs S zero met = met
 swept os zs S (suc c) met = grown S (getD os c 0) (getD zs c 0) (swept os zs S c met)
 
--- A lent list, before and after: its first places hold the parts of S, which are `number`, and the others are as they were. Weights make no difference.
+-- A lent list, before and after: its first places hold the parts of S, which are `number`, and the others are as they were. Weights and multiplicities make no difference.
 pub record Listed (os zs : List ℕ) (S : ℕ) (old new : List ℕ) (number : ℕ) : Type 0 where
-  pub many : (ws : List ℕ) → number ≡ length (parts 64 (length os) (colsOf ws os zs) S)
-  pub list : (ws : List ℕ) → new ≡ parts 64 (length os) (colsOf ws os zs) S ++ drop number old
+  pub many : (μ : ℕ → ℕ) → Positive μ → (ws : List ℕ) → number ≡ length (parts 64 μ (length os) (colsOf ws os zs) S)
+  pub list : (μ : ℕ → ℕ) → Positive μ → (ws : List ℕ) → new ≡ parts 64 μ (length os) (colsOf ws os zs) S ++ drop number old

@@ -3,6 +3,8 @@ use matrix::Column;
 ghost use mathlib.Core.Path.{_≡_};
 ghost use Prim.Native.Nat.{_+_, _*_, _≤_};
 ghost use lib.ListN.{length};
+ghost use Rattle.taxa.specs.Sets.{_∩_, mass, multiplicityIn};
+ghost use Rattle.matrix.specs.Matrix.{columnsAt};
 ghost use Rattle.method.specs.Split as method;
 ghost use Rattle.method.specs.Tree.{column};
 ghost use Rattle.search.specs.Search.{colsOf};
@@ -13,7 +15,7 @@ pub fn load(file: &[u8], weights: &mut [u16], ones: &mut [u64], zeros: &mut [u64
     requires { ⌜
         Parallel (now weights) (now ones) (now zeros)
         × (length (now weights) ≡ length (matrixIn (now file) .columns))
-        × (12 + 22 * length (now weights) ≤ length (now file)) ⌝ }
+        × (columnsAt (now file) + 22 * length (now weights) ≤ length (now file)) ⌝ }
     ensures { λ _. ⌜
         (colsOf (now (weights .exit)) (now (ones .exit)) (now (zeros .exit)) ≡ column (matrixIn (now (file .entry)) .columns))
         × Parallel (now (weights .exit)) (now (ones .exit)) (now (zeros .exit))
@@ -49,14 +51,21 @@ fn lower(it: Column, set: u64) -> Column
     }
 }
 
+// What the taxa of x that are in y stand for.
+fn mass_common(planes: &[u64; 8], x: u64, y: u64) -> u32
+    ensures { λ r. ⌜ r ≡ mass 64 (multiplicityIn (now (planes .entry))) (x ∩ y) ⌝ }
+{
+    taxa::mass_in(planes, taxa::common(x, y))
+}
+
 // What a division of the group flips of a column: its 0s in the group are raised, or its ones on one side lowered.
-fn flip(it: Column, group: u64, side: u64) -> Column
-    ensures { λ r. ⌜ columnOf r ≡ method.flip 64 group side (columnOf it) ⌝ }
+fn flip(planes: &[u64; 8], it: Column, group: u64, side: u64) -> Column
+    ensures { λ r. ⌜ columnOf r ≡ method.flip 64 (multiplicityIn (now (planes .entry))) group side (columnOf it) ⌝ }
 {
     let rest = taxa::difference(group, side);
-    let a = taxa::count_in(it.ones, side);
-    let b = taxa::count_in(it.ones, rest);
-    let z = taxa::count_in(it.zeros, group);
+    let a = mass_common(planes, it.ones, side);
+    let b = mass_common(planes, it.ones, rest);
+    let z = mass_common(planes, it.zeros, group);
     if z <= taxa::least(a, b) {
         return raise(it, group);
     }
@@ -67,11 +76,18 @@ fn flip(it: Column, group: u64, side: u64) -> Column
 }
 
 // Every column flipped by a division of the group.
-pub fn flip_columns(weights: &[u16], ones: &mut [u64], zeros: &mut [u64], group: u64, side: u64)
+pub fn flip_columns(
+    weights: &[u16],
+    planes: &[u64; 8],
+    ones: &mut [u64],
+    zeros: &mut [u64],
+    group: u64,
+    side: u64,
+)
     requires { ⌜ Parallel (now weights) (now ones) (now zeros) ⌝ }
     ensures { λ _. ⌜
         (colsOf (now (weights .entry)) (now (ones .exit)) (now (zeros .exit))
-        ≡ method.flipped 64 (length (now (weights .entry))) (colsOf (now (weights .entry)) (now (ones .entry)) (now (zeros .entry))) group side)
+        ≡ method.flipped 64 (multiplicityIn (now (planes .entry))) (length (now (weights .entry))) (colsOf (now (weights .entry)) (now (ones .entry)) (now (zeros .entry))) group side)
         × Parallel (now (weights .entry)) (now (ones .exit)) (now (zeros .exit)) ⌝ }
 {
     for c in 0..weights.len() {
@@ -80,7 +96,7 @@ pub fn flip_columns(weights: &[u16], ones: &mut [u64], zeros: &mut [u64], group:
             ones: ones[c],
             zeros: zeros[c],
         };
-        let new = flip(it, group, side);
+        let new = flip(planes, it, group, side);
         ones[c] = new.ones;
         zeros[c] = new.zeros;
     }

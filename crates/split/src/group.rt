@@ -5,7 +5,7 @@ use search::Split;
 ghost use mathlib.Core.Path.{_≡_};
 ghost use Prim.Native.Nat.{_*_, _≤_};
 ghost use lib.ListN.{length};
-ghost use Rattle.taxa.specs.Sets.{count};
+ghost use Rattle.taxa.specs.Sets.{multiplicityIn, count};
 ghost use Rattle.search.specs.Search.{colsOf, Given};
 ghost use Rattle.search.specs.Network.{Lent};
 ghost use Rattle.search.specs.Workspace.{cleared};
@@ -15,6 +15,7 @@ ghost use Rattle.split.specs.Groups.{IsSplit, HandsOn};
 // The division that document 01 takes. The search's flow is cleared away.
 pub fn divide(
     weights: &[u16],
+    planes: &[u64; 8],
     ones: &[u64],
     zeros: &[u64],
     group: u64,
@@ -27,16 +28,17 @@ pub fn divide(
     tree: &mut [u32; 256],
 ) -> Split
     requires { ⌜
-        Given (now weights) (now ones) (now zeros) group n m
+        Given (now weights) (now planes) (now ones) (now zeros) group n m
         × (n * m ≤ length (now workspace))
         × Lent (now joined) (now limits) (now used) (now tree) ⌝ }
     ensures { λ r. ⌜
-        IsSplit m (colsOf (now (weights .entry)) (now (ones .entry)) (now (zeros .entry))) group (r .cost) (r .side) (r .other)
+        IsSplit (multiplicityIn (now (planes .entry))) m (colsOf (now (weights .entry)) (now (ones .entry)) (now (zeros .entry))) group (r .cost) (r .side) (r .other)
         × (now (workspace .exit) ≡ cleared (n * m) (now (workspace .entry)))
         × Lent (now (joined .exit)) (now (limits .exit)) (now (used .exit)) (now (tree .exit)) ⌝ }
 {
     let found = search::divide(
         weights,
+        planes,
         ones,
         zeros,
         group,
@@ -61,6 +63,7 @@ pub struct Handed {
 // The split of a group of n taxa: the columns are flipped, and the parts go into the first places of a lent list.
 pub fn split_group(
     weights: &[u16],
+    planes: &[u64; 8],
     ones: &mut [u64],
     zeros: &mut [u64],
     group: u64,
@@ -73,19 +76,20 @@ pub fn split_group(
     tree: &mut [u32; 256],
 ) -> Handed
     requires { ⌜
-        Given (now weights) (now ones) (now zeros) group n (length (now weights))
+        Given (now weights) (now planes) (now ones) (now zeros) group n (length (now weights))
         × Parallel (now weights) (now ones) (now zeros)
         × (n * length (now weights) ≤ length (now workspace))
         × (count 64 group ≤ length (now list))
         × Lent (now joined) (now limits) (now used) (now tree) ⌝ }
     ensures { λ r. ⌜
-        HandsOn (now (weights .entry)) (now (ones .entry)) (now (zeros .entry)) (now (ones .exit)) (now (zeros .exit)) group
+        HandsOn (now (weights .entry)) (now (planes .entry)) (now (ones .entry)) (now (zeros .entry)) (now (ones .exit)) (now (zeros .exit)) group
         (now (list .entry)) (now (list .exit)) (r .cost) (r .number)
         × (now (workspace .exit) ≡ cleared (n * length (now (weights .entry))) (now (workspace .entry)))
         × Lent (now (joined .exit)) (now (limits .exit)) (now (used .exit)) (now (tree .exit)) ⌝ }
 {
     let found = divide(
         weights,
+        planes,
         ones,
         zeros,
         group,
@@ -97,7 +101,7 @@ pub fn split_group(
         used,
         tree,
     );
-    columns::flip_columns(weights, ones, zeros, group, found.side);
+    columns::flip_columns(weights, planes, ones, zeros, group, found.side);
     let number = parts::parts(ones, zeros, group, list);
     Handed {
         cost: found.cost,

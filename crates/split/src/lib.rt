@@ -40,12 +40,14 @@ fn split_loaded(
     ensures { λ r. ⌜ (r ≡ splitOf (matrixIn (now (file .entry))) group) × (now (workspace .exit) ≡ cleared (n * m) (now (workspace .entry))) ⌝ }
 {
     columns::load(file, weights, ones, zeros);
+    let planes = matrix::planes_in(file);
     let mut joined = [0u64; 256];
     let mut limits = [0u32; 256];
     let mut used = [0u32; 256];
     let mut tree = [0u32; 256];
     let found = group::divide(
         weights,
+        &planes,
         ones,
         zeros,
         group,

@@ -3,7 +3,7 @@ ghost use mathlib.Core.Path.{_≡_};
 ghost use mathlib.Core.List.{List};
 ghost use Prim.Native.Nat.{ℕ, _≤_};
 ghost use lib.ListN.{length};
-ghost use Rattle.taxa.specs.Sets.{_∈_, count};
+ghost use Rattle.taxa.specs.Sets.{_∈_, Positive, count};
 ghost use Rattle.method.specs.Split as method;
 ghost use Rattle.search.specs.Search.{colsOf};
 ghost use Rattle.split.specs.Parts.{grown, swept, Listed};
@@ -33,10 +33,10 @@ fn sweep(ones: &[u64], zeros: &[u64], group: u64, met: u64) -> u64
     all
 }
 
-// The part of taxon i of the group: sweeps until nothing changes. Weights make no difference.
+// The part of taxon i of the group: sweeps until nothing changes. Weights and multiplicities make no difference.
 fn part(ones: &[u64], zeros: &[u64], group: u64, i: u32) -> u64
     requires { ⌜ (length (now zeros) ≡ length (now ones)) × (i ∈ group) ⌝ }
-    ensures { λ r. ⌜ ((ws : List ℕ) → r ≡ method.part 64 (length (now (ones .entry))) (colsOf ws (now (ones .entry)) (now (zeros .entry))) group i) ⌝ }
+    ensures { λ r. ⌜ ((μ : ℕ → ℕ) → Positive μ → (ws : List ℕ) → r ≡ method.part 64 μ (length (now (ones .entry))) (colsOf ws (now (ones .entry)) (now (zeros .entry))) group i) ⌝ }
 {
     let mut met = taxa::single(i);
     let mut next = sweep(ones, zeros, group, met);

@@ -10,7 +10,7 @@ use borrow.Author.Tests.{ne-eqb}
 use Rattle.taxa.specs.Sum.{sum, inside, outside}
 use Rattle.taxa.specs.Sets.{has, _∈_, _∉_, _⊆_, Disjoint, _∩_, _∪_, _∖_, mass, Positive, all}
 use Rattle.taxa.proofs.Sums.{sum-≡, sum-≤, sum-+, sum-*, sum-none, sum-but, sum-0}
-use Rattle.taxa.proofs.Insides.{inside-term, inside-pos}
+use Rattle.taxa.proofs.Insides.{cond-≡, inside-term, inside-pos}
 use Rattle.taxa.proofs.Digits.{without, has-∩, has-∪, has-∖, has-none, has-pow}
 use Rattle.taxa.proofs.Members.{in?, out, in∖, in-all, all-<, below, empty, ext, ⊆-∩, disjoint-∩, in-pow, pow-in, pow-∩, ∩-comm, in-pos}
 
@@ -132,10 +132,13 @@ module _ (k : ℕ) (μ : ℕ → ℕ) where
     pub mass-tight : {x y : ℕ} → y < 2 ^ k → x ⊆ y → mass k μ x ≡ mass k μ y → x ≡ y
     mass-tight {x} {y} f s e = ext s (record { sub = λ {i} h. elim (in? i x) [ yes g ↦ g | no n ↦ absurd (omega (arith, mass-< s (below k f h) h n)) ] })
 
--- Multiplicities that agree weigh alike.
-pub mass-≡ : (k : ℕ) {μ ν : ℕ → ℕ} → ((i : ℕ) → i < k → μ i ≡ ν i) → (x : ℕ) → mass k μ x ≡ mass k ν x
+-- Multiplicities that agree on a set weigh it alike.
+pub mass-on : (k : ℕ) {μ ν : ℕ → ℕ} (x : ℕ) → ((i : ℕ) → i < k → i ∈ x → μ i ≡ ν i) → mass k μ x ≡ mass k ν x
 unfolding mass
-mass-≡ k e x = sum-≡ k (λ i b. ap (λ (n : ℕ). cond (has x i) n 0) (e i b))
+mass-on k x e = sum-≡ k (λ i b. cond-≡ (has x i) (λ h. e i b (record { is = h })))
+
+pub mass-≡ : (k : ℕ) {μ ν : ℕ → ℕ} → ((i : ℕ) → i < k → μ i ≡ ν i) → (x : ℕ) → mass k μ x ≡ mass k ν x
+mass-≡ k e x = mass-on k x (λ i b h. e i b)
 
 -- A mass does not depend on a width that is enough.
 pub mass-width : (μ : ℕ → ℕ) {j k x : ℕ} → j ≤ k → x < 2 ^ j → mass j μ x ≡ mass k μ x

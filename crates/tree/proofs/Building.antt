@@ -1,7 +1,7 @@
 -- The build of a file that nothing refuses: what its steps ask for (`lent-ready`, `lent-room`, `to-write`), that what they come to is the content of the
 -- method's answer (`built-content`), and that writing it is not refused (`written-all`). Then the rows of
 -- the operation's table.
-use mathlib.Core.Path.{_≡_, refl, sym, ap, _∙_}
+use mathlib.Core.Path.{_≡_, refl, sym, ap, _∙_, subst}
 use mathlib.Core.List.{List, _++_}
 use Prim.Native.Nat.{ℕ, zero, suc, _+_, _*_, _≤_, _<_}
 use native.Mathlib.Omega.{arith}
@@ -9,7 +9,7 @@ use lib.IntN.{ℤ, pos}
 use lib.ListN.{length, take, drop, replicate, length-replicate, length-append, length-drop}
 use lib.Seq.{take-at, drop-at, getD-take}
 use borrow.Author.Tests.{lt-ltb, le-ltb}
-use Rattle.taxa.specs.Sets.{all}
+use Rattle.taxa.specs.Sets.{Positive, multiplicity, multiplicityIn, all}
 use Rattle.taxa.proofs.Members.{all-<, all-fits}
 use Rattle.taxa.proofs.Counts.{count-all}
 use Rattle.record.specs.Bytes.{File, over}
@@ -64,34 +64,38 @@ module _ {file : List ℕ} {n m space room : ℕ} (f : File file) (b : Buildable
   abbrev file-columns : ℕ → Column
   file-columns = column (M .columns)
 
+  abbrev file-multiplicities : ℕ → ℕ
+  file-multiplicities = multiplicity (M .multiplicities)
+
   ok : Sound M
   ok = taken-sound f (b .taken)
 
   -- ---- the walk from all taxa
 
-  grow-ready : {ws os zs : List ℕ} {clear : List ℤ} (before : List ℤ) → Parallel ws os zs → length ws ≡ m → clear ≡ cleared (n * m) before → length clear ≡ space
-      → Ready ws os zs (all n) n clear
-  grow-ready before p e c l =
+  grow-ready : {ws P os zs : List ℕ} {clear : List ℤ} (before : List ℤ) → Parallel ws os zs → multiplicityIn P ≡ file-multiplicities → length ws ≡ m → clear ≡ cleared (n * m) before → length clear ≡ space
+      → Ready ws P os zs (all n) n clear
+  grow-ready before p u e c l =
       record {
         parallel = p;
         columns = omega (arith, few-columns f (b .taken));
+        positive = subst Positive (sym u) (ok .positive);
         taxa = few-taxa f (b .taken);
         group = all-< n;
         places = rw e (omega (arith, b .places));
         clear = rw (e, c) (cleared-twice (n * m) before);
       }
 
-  few-groups : (cols : ℕ → Column) → length (build 64 m cols (all n) .groups) ≤ 63
-  few-groups cols =
+  few-groups : (μ : ℕ → ℕ) (cols : ℕ → Column) → length (build 64 μ m cols (all n) .groups) ≤ 63
+  few-groups μ cols =
       let few = few-taxa f (b .taken) in
       let size = count-all 64 n few in
-      omega (arith, build-length 64 m cols (all n) (all-fits 64 few) (omega (arith, ok .some, taken-known f (b .taken))))
+      omega (arith, build-length 64 μ m cols (all n) (all-fits 64 few) (omega (arith, ok .some, taken-known f (b .taken))))
 
-  grow-room : (ws os zs : List ℕ) {ts cs : List ℕ} → length ws ≡ m → length ts ≡ 63 → length cs ≡ 63 → Room (length (walkFrom ws os zs (all n) .groups)) ts cs
-  grow-room ws os zs e t c = rw e (let few = few-groups (colsOf ws os zs) in record { taxa-room = omega arith; costs-room = omega arith })
+  grow-room : (ws P os zs : List ℕ) {ts cs : List ℕ} → length ws ≡ m → length ts ≡ 63 → length cs ≡ 63 → Room (length (walkFrom ws P os zs (all n) .groups)) ts cs
+  grow-room ws P os zs e t c = rw e (let few = few-groups (multiplicityIn P) (colsOf ws os zs) in record { taxa-room = omega arith; costs-room = omega arith })
 
   -- The columns stand in front of other entries.
-  module _ (ws os zs w o z : List ℕ) (p : Parallel ws os zs) (sized : length ws ≡ m) where
+  module _ (ws P os zs w o z : List ℕ) (p : Parallel ws os zs) (sized : length ws ≡ m) where
     abbrev lent : List ℕ
     lent = take m (ws ++ w)
 
@@ -110,19 +114,19 @@ module _ {file : List ℕ} {n m space room : ℕ} (f : File file) (b : Buildable
     pub lent-columns : colsOf ws os zs ≡ file-columns → colsOf lent (entriesFor lent (os ++ o)) (entriesFor lent (zs ++ z)) ≡ file-columns
     lent-columns e = rw (ones-are, zeros-are, lent-is) e
 
-    pub lent-ready : {clear : List ℤ} (before : List ℤ) → clear ≡ cleared (n * m) before → length clear ≡ space → Ready lent (entriesFor lent (os ++ o)) (entriesFor lent (zs ++ z)) (all n) n clear
-    lent-ready before c l = rw (ones-are, zeros-are, lent-is) (grow-ready before p sized c l)
+    pub lent-ready : multiplicityIn P ≡ file-multiplicities → {clear : List ℤ} (before : List ℤ) → clear ≡ cleared (n * m) before → length clear ≡ space → Ready lent P (entriesFor lent (os ++ o)) (entriesFor lent (zs ++ z)) (all n) n clear
+    lent-ready u before c l = rw (ones-are, zeros-are, lent-is) (grow-ready before p u sized c l)
 
-    pub lent-room : {ts cs : List ℕ} → length ts ≡ 63 → length cs ≡ 63 → Room (length (walkFrom lent (entriesFor lent (os ++ o)) (entriesFor lent (zs ++ z)) (all n) .groups)) ts cs
-    lent-room t c = grow-room lent _ _ lent-sized t c
+    pub lent-room : {ts cs : List ℕ} → length ts ≡ 63 → length cs ≡ 63 → Room (length (walkFrom lent P (entriesFor lent (os ++ o)) (entriesFor lent (zs ++ z)) (all n) .groups)) ts cs
+    lent-room t c = grow-room lent P _ _ lent-sized t c
 
   -- ---- what it comes to
 
-  module _ (ws os zs os′ zs′ ts cs ts′ cs′ : List ℕ) {clear clear′ : List ℤ} (k : ℕ) (start : colsOf ws (entriesFor ws os) (entriesFor ws zs) ≡ file-columns) (sized : length ws ≡ m)
-      (g : Grown ws (entriesFor ws os′) (entriesFor ws zs′) clear clear′ (walkFrom ws (entriesFor ws os) (entriesFor ws zs) (all n)) (firstGroups ts cs 0) (firstGroups ts′ cs′ k) 0 k) where
-    walked-groups : firstGroups ts′ cs′ k ≡ build 64 (length (M .columns)) file-columns (all (M .taxa)) .groups
+  module _ (ws P os zs os′ zs′ ts cs ts′ cs′ : List ℕ) {clear clear′ : List ℤ} (k : ℕ) (same : multiplicityIn P ≡ file-multiplicities) (start : colsOf ws (entriesFor ws os) (entriesFor ws zs) ≡ file-columns) (sized : length ws ≡ m)
+      (g : Grown ws (entriesFor ws os′) (entriesFor ws zs′) clear clear′ (walkFrom ws P (entriesFor ws os) (entriesFor ws zs) (all n)) (firstGroups ts cs 0) (firstGroups ts′ cs′ k) 0 k) where
+    walked-groups : firstGroups ts′ cs′ k ≡ build 64 file-multiplicities (length (M .columns)) file-columns (all (M .taxa)) .groups
     unfolding firstGroups
-    walked-groups = g .groups ∙ rw (start, sized, taken-count f (b .taken), taken-known f (b .taken))
+    walked-groups = g .groups ∙ rw (same, start, sized, taken-count f (b .taken), taken-known f (b .taken))
 
     groups-are : ordered 64 n (firstGroups ts′ cs′ k) ≡ answer M .groups
     unfolding answer
@@ -133,7 +137,7 @@ module _ {file : List ℕ} {n m space room : ℕ} (f : File file) (b : Buildable
     flips-are =
         same-flips m file-columns (unweighed os′ zs′) (colsOf ws (entriesFor ws os′) (entriesFor ws zs′))
         (λ c l. (sym (getD-take (length ws) os′ c 0 (omega arith)), sym (getD-take (length ws) zs′ c 0 (omega arith))))
-        ∙ rw (g .columns, start, sized, taken-count f (b .taken), taken-known f (b .taken))
+        ∙ rw (g .columns, same, start, sized, taken-count f (b .taken), taken-known f (b .taken))
 
     pub built-content : contentWith n m (ordered 64 n (firstGroups ts′ cs′ k)) (flipList m file-columns (unweighed os′ zs′)) ≡ contentFor M
     unfolding contentFor
@@ -142,14 +146,14 @@ module _ {file : List ℕ} {n m space room : ℕ} (f : File file) (b : Buildable
     pub to-write : LentLists os′ zs′ ts′ cs′ → Walked file os′ zs′ n m ts′ cs′ k
     unfolding answer
     to-write h =
-        let few = rw (start, sized) at (g .many) in
+        let few = rw (same, start, sized) at (g .many) in
         record {
           columns = sym (taken-count f (b .taken));
           few-columns = few-columns f (b .taken);
           whole = can-load f (b .taken) refl .1;
           ones = h .ones;
           zeros = h .zeros;
-          listed = let l = few-groups file-columns in record { taxa-room = omega (arith, h .walked); costs-room = omega (arith, h .paid) };
+          listed = let l = few-groups file-multiplicities file-columns in record { taxa-room = omega (arith, h .walked); costs-room = omega (arith, h .paid) };
           few = rw groups-are (omega (arith, promises.groups-few M ok, few-taxa f (b .taken), taken-known f (b .taken)));
           small = rw groups-are (omega (arith, promises.total-small M ok));
         }

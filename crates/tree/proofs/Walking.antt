@@ -69,24 +69,24 @@ module _ (g : (ℕ → Column) → ℕ → Walk) (Ps : List ℕ) where
 -- ---- a group
 
 -- A set of one taxon, or of none, is no group.
-pub one-taxon : {ws os zs : List ℕ} {space : List ℤ} {before : List Group} {at S : ℕ} → Parallel ws os zs → S < 2 ^ 64 → count 64 S ≤ 1
-    → Grown ws os zs space space (build 64 (length ws) (colsOf ws os zs) S) before before at at
-one-taxon {ws} {os} {zs} {before = before} p fits few =
-    rw (build-leaf 64 (length ws) (colsOf ws os zs) fits few)
+pub one-taxon : {ws os zs : List ℕ} {μ : ℕ → ℕ} {space : List ℤ} {before : List Group} {at S : ℕ} → Parallel ws os zs → S < 2 ^ 64 → count 64 S ≤ 1
+    → Grown ws os zs space space (build 64 μ (length ws) (colsOf ws os zs) S) before before at at
+one-taxon {ws} {os} {zs} {μ} {before = before} p fits few =
+    rw (build-leaf 64 μ (length ws) (colsOf ws os zs) fits few)
     (record { columns = refl; parallel = p; groups = sym (append-nil before); many = omega arith; workspace = refl })
 
 -- The group, and what the walk over its parts came to.
-pub whole-group : {ws os zs : List ℕ} {space space′ : List ℤ} {before new : List Group} {at end S : ℕ} (cols mid : ℕ → Column) (Ps : List ℕ)
-    → S < 2 ^ 64 → 1 < count 64 S → mid ≡ after 64 (length ws) cols S → Ps ≡ splitParts 64 (length ws) cols S
-    → Grown ws os zs space space′ (walked (build 64 (length ws)) mid Ps) (before ++ (record { taxa = S; cost = splitCost 64 (length ws) cols S } ∷ [])) new (at + 1) end
-    → Grown ws os zs space space′ (build 64 (length ws) cols S) before new at end
+pub whole-group : {ws os zs : List ℕ} {μ : ℕ → ℕ} {space space′ : List ℤ} {before new : List Group} {at end S : ℕ} (cols mid : ℕ → Column) (Ps : List ℕ)
+    → S < 2 ^ 64 → 1 < count 64 S → mid ≡ after 64 μ (length ws) cols S → Ps ≡ splitParts 64 μ (length ws) cols S
+    → Grown ws os zs space space′ (walked (build 64 μ (length ws)) mid Ps) (before ++ (record { taxa = S; cost = splitCost 64 μ (length ws) cols S } ∷ [])) new (at + 1) end
+    → Grown ws os zs space space′ (build 64 μ (length ws) cols S) before new at end
 unfolding node
-whole-group {ws} {before = before} {S = S} cols mid Ps fits two e ps w =
-    rw (build-node 64 (length ws) cols fits two)
+whole-group {ws} {μ = μ} {before = before} {S = S} cols mid Ps fits two e ps w =
+    rw (build-node 64 μ (length ws) cols fits two)
     (record {
       columns = rw (e, ps) at (w .columns);
       parallel = w .parallel;
-      groups = rw (e, ps) at (w .groups) ∙ append-assoc before (record { taxa = S; cost = splitCost 64 (length ws) cols S } ∷ []) _;
+      groups = rw (e, ps) at (w .groups) ∙ append-assoc before (record { taxa = S; cost = splitCost 64 μ (length ws) cols S } ∷ []) _;
       many = let n = rw (e, ps) at (w .many) in omega arith;
       workspace = w .workspace;
     })
@@ -94,15 +94,15 @@ whole-group {ws} {before = before} {S = S} cols mid Ps fits two e ps w =
 -- ---- the parts are small
 
 -- Where a list has room for twice the group's taxa, there is room after the parts for twice those of any of them: there are two parts or more.
-pub parts-small : (m n : ℕ) (cols : ℕ → Column) (S room : ℕ) → n ≤ 64 → S < 2 ^ n → 1 < count 64 S → 2 * count 64 S ≤ room + length (splitParts 64 m cols S)
-    → AllSmall (splitParts 64 m cols S) n (count 64 S) room
-parts-small m n cols S room l fits two enough =
+pub parts-small : (μ : ℕ → ℕ) (m n : ℕ) (cols : ℕ → Column) (S room : ℕ) → n ≤ 64 → S < 2 ^ n → 1 < count 64 S → 2 * count 64 S ≤ room + length (splitParts 64 μ m cols S)
+    → AllSmall (splitParts 64 μ m cols S) n (count 64 S) room
+parts-small μ m n cols S room l fits two enough =
     let wide : S < 2 ^ 64 = omega (arith, pow-mono l) in
-    let Ps = splitParts 64 m cols S in
+    let Ps = splitParts 64 μ m cols S in
     record {
-      short = λ i b. omega (arith, ⊆-≤ (inside-R 64 m (after 64 m cols S) S (split-parts 64 m cols S wide two) (getD-in 0 Ps i b)));
-      small = λ i b. part-in 64 m cols S wide two (getD-in 0 Ps i b) .2;
-      fits = λ i b. omega (arith, split-beside 64 m cols S wide two (getD-in 0 Ps i b), split-two 64 m cols S wide two);
+      short = λ i b. omega (arith, ⊆-≤ (inside-R 64 μ m (after 64 μ m cols S) S (split-parts 64 μ m cols S wide two) (getD-in 0 Ps i b)));
+      small = λ i b. part-in 64 μ m cols S wide two (getD-in 0 Ps i b) .2;
+      fits = λ i b. omega (arith, split-beside 64 μ m cols S wide two (getD-in 0 Ps i b), split-two 64 μ m cols S wide two);
     }
 
 -- A part that the list still holds is read off it.
@@ -114,17 +114,17 @@ pub rest-length : (k : ℕ) (list : List ℕ) → length (take (length list - k)
 rest-length k list = length-take-le (length list - k) (drop k list) (omega (arith, length-drop k list))
 
 -- What the walk asks of each part.
-pub ready-part : {ws os zs os′ zs′ : List ℕ} {S P n : ℕ} {space space′ : List ℤ} → Ready ws os zs S n space → Parallel ws os′ zs′ → space′ ≡ space → P < 2 ^ n
-    → Ready ws os′ zs′ P n space′
-ready-part {ws} {os′ = os′} {zs′} {P = P} {n} r p e f =
-    subst (λ (l : List ℤ). Ready ws os′ zs′ P n l) (sym e)
-    (record { parallel = p; columns = r .columns; taxa = r .taxa; group = f; places = r .places; clear = r .clear })
+pub ready-part : {ws P os zs os′ zs′ : List ℕ} {S Q n : ℕ} {space space′ : List ℤ} → Ready ws P os zs S n space → Parallel ws os′ zs′ → space′ ≡ space → Q < 2 ^ n
+    → Ready ws P os′ zs′ Q n space′
+ready-part {ws} {P} {os′ = os′} {zs′} {Q = Q} {n} r p e f =
+    subst (λ (l : List ℤ). Ready ws P os′ zs′ Q n l) (sym e)
+    (record { parallel = p; columns = r .columns; positive = r .positive; taxa = r .taxa; group = f; places = r .places; clear = r .clear })
 
-pub ready-wide : {ws os zs : List ℕ} {S n : ℕ} {space : List ℤ} → Ready ws os zs S n space → S < 2 ^ 64
+pub ready-wide : {ws P os zs : List ℕ} {S n : ℕ} {space : List ℤ} → Ready ws P os zs S n space → S < 2 ^ 64
 ready-wide r = omega (arith, r .group, pow-mono (r .taxa))
 
 -- A group is one group more than those of its parts.
-pub node-length : (m : ℕ) (cols : ℕ → Column) {S : ℕ} → S < 2 ^ 64 → 1 < count 64 S
-    → length (build 64 m cols S .groups) ≡ 1 + length (walked (build 64 m) (after 64 m cols S) (splitParts 64 m cols S) .groups)
+pub node-length : (μ : ℕ → ℕ) (m : ℕ) (cols : ℕ → Column) {S : ℕ} → S < 2 ^ 64 → 1 < count 64 S
+    → length (build 64 μ m cols S .groups) ≡ 1 + length (walked (build 64 μ m) (after 64 μ m cols S) (splitParts 64 μ m cols S) .groups)
 unfolding node
-node-length m cols fits two = rw (build-node 64 m cols fits two) (omega arith)
+node-length μ m cols fits two = rw (build-node 64 μ m cols fits two) (omega arith)

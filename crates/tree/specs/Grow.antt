@@ -4,7 +4,8 @@ use mathlib.Core.List.{List, _++_}
 use Prim.Native.Nat.{ℕ, _+_, _*_, _^_, _≤_, _<_}
 use lib.IntN.{ℤ}
 use lib.ListN.{length, getD, take}
-use Rattle.taxa.specs.Sets.{count}
+use Rattle.taxa.specs.Sets.{Positive, multiplicityIn, count}
+use Rattle.matrix.specs.Matrix.{columnsAt}
 use Rattle.method.specs.Tree.{Group, Walk, build, walked, ordered, total}
 use Rattle.answer.specs.declared.Written.{Written}
 use Rattle.answer.specs.declared.Written.the-variants as written
@@ -17,10 +18,11 @@ use Rattle.tree.specs.declared.Built.{Built}
 use Rattle.tree.specs.declared.Built.the-variants.{Taken, Refused}
 use Rattle.tree.specs.Lists.{firstGroups, Room}
 
--- At most 256 columns in three lists, a group of taxa below n, and a workspace whose first n x m numbers are 0.
-pub record Ready (ws os zs : List ℕ) (S n : ℕ) (space : List ℤ) : Type 0 where
+-- At most 256 columns in three lists, multiplicities of which none is 0, a group of taxa below n, and a workspace whose first n x m numbers are 0.
+pub record Ready (ws P os zs : List ℕ) (S n : ℕ) (space : List ℤ) : Type 0 where
   pub parallel : Parallel ws os zs
   pub columns : length ws ≤ 256
+  pub positive : Positive (multiplicityIn P)
   pub taxa : n ≤ 64
   pub group : S < 2 ^ n
   pub places : n * length ws ≤ length space
@@ -37,13 +39,13 @@ pub record LentLists (os zs taxa costs : List ℕ) : Type 0 where
   pub walked : length taxa ≡ 63
   pub paid : length costs ≡ 63
 
--- The walk from a group, on columns in three lists.
-abbrev pub walkFrom : List ℕ → List ℕ → List ℕ → ℕ → Walk
-walkFrom ws os zs S = build 64 (length ws) (colsOf ws os zs) S
+-- The walk from a group, on columns in three lists and multiplicities in planes.
+abbrev pub walkFrom : List ℕ → List ℕ → List ℕ → List ℕ → ℕ → Walk
+walkFrom ws P os zs S = build 64 (multiplicityIn P) (length ws) (colsOf ws os zs) S
 
 -- The walk over sets, one after the other.
-abbrev pub walkOver : List ℕ → List ℕ → List ℕ → List ℕ → Walk
-walkOver ws os zs Ps = walked (build 64 (length ws)) (colsOf ws os zs) Ps
+abbrev pub walkOver : List ℕ → List ℕ → List ℕ → List ℕ → List ℕ → Walk
+walkOver ws P os zs Ps = walked (build 64 (multiplicityIn P) (length ws)) (colsOf ws os zs) Ps
 
 -- A walk was made: the columns are those that it leaves, its groups stand after those before, and the workspace is as it was.
 pub record Grown (ws os zs : List ℕ) (before after : List ℤ) (walk : Walk) (old new : List Group) (at end : ℕ) : Type 0 where
@@ -64,7 +66,7 @@ pub record AllSmall (Ps : List ℕ) (n bound room : ℕ) : Type 0 where
 pub record Walked (file os zs : List ℕ) (n m : ℕ) (walked paid : List ℕ) (k : ℕ) : Type 0 where
   pub columns : m ≡ length (matrixIn file .columns)
   pub few-columns : m ≤ 256
-  pub whole : 12 + 22 * m ≤ length file
+  pub whole : columnsAt file + 22 * m ≤ length file
   pub ones : length os ≡ 256
   pub zeros : length zs ≡ 256
   pub listed : Room k walked paid

@@ -19,6 +19,7 @@ use split::group::split_group;
 // The split of a group, on columns in the first entries of longer lists.
 fn split_first(
     weights: &[u16],
+    planes: &[u64; 8],
     ones: &mut [u64],
     zeros: &mut [u64],
     group: u64,
@@ -31,7 +32,7 @@ fn split_first(
     tree: &mut [u32; 256],
 ) -> Handed
     requires { ⌜
-        Given (now weights) (entriesFor (now weights) (now ones)) (entriesFor (now weights) (now zeros)) group n (length (now weights))
+        Given (now weights) (now planes) (entriesFor (now weights) (now ones)) (entriesFor (now weights) (now zeros)) group n (length (now weights))
         × Parallel (now weights) (entriesFor (now weights) (now ones)) (entriesFor (now weights) (now zeros))
         × (n * length (now weights) ≤ length (now ws))
         × (count 64 group ≤ length (now list))
@@ -39,7 +40,7 @@ fn split_first(
         × (length (now weights) ≤ length (now ones))
         × (length (now weights) ≤ length (now zeros)) ⌝ }
     ensures { λ r. ⌜
-        HandsOn (now (weights .entry)) (entriesFor (now (weights .entry)) (now (ones .entry))) (entriesFor (now (weights .entry)) (now (zeros .entry)))
+        HandsOn (now (weights .entry)) (now (planes .entry)) (entriesFor (now (weights .entry)) (now (ones .entry))) (entriesFor (now (weights .entry)) (now (zeros .entry)))
         (entriesFor (now (weights .entry)) (now (ones .exit))) (entriesFor (now (weights .entry)) (now (zeros .exit))) group
         (now (list .entry)) (now (list .exit)) (r .cost) (r .number)
         × (now (ws .exit) ≡ cleared (n * length (now (weights .entry))) (now (ws .entry)))
@@ -48,6 +49,7 @@ fn split_first(
     let m = weights.len();
     split_group(
         weights,
+        planes,
         &mut ones[..m],
         &mut zeros[..m],
         group,
@@ -64,6 +66,7 @@ fn split_first(
 // The group and all below it, after those that stand before `at`. Returns how many there are then.
 pub fn grow(
     weights: &[u16],
+    planes: &[u64; 8],
     ones: &mut [u64; 256],
     zeros: &mut [u64; 256],
     ws: &mut [i32],
@@ -79,17 +82,17 @@ pub fn grow(
     at: usize,
 ) -> usize
     requires { ⌜
-        Ready (now weights) (entriesFor (now weights) (now ones)) (entriesFor (now weights) (now zeros)) group n (now ws)
+        Ready (now weights) (now planes) (entriesFor (now weights) (now ones)) (entriesFor (now weights) (now zeros)) group n (now ws)
         × (2 * count 64 group ≤ length (now list))
         × LentLists (now ones) (now zeros) (now walked) (now paid)
         × Lent (now joined) (now limits) (now used) (now tree) ⌝ }
     requires { ⌜
-        Room (at + length (walkFrom (now weights) (entriesFor (now weights) (now ones)) (entriesFor (now weights) (now zeros)) group .groups))
+        Room (at + length (walkFrom (now weights) (now planes) (entriesFor (now weights) (now ones)) (entriesFor (now weights) (now zeros)) group .groups))
         (now walked) (now paid) ⌝ }
     ensures { λ r. ⌜
         Grown (now (weights .entry)) (entriesFor (now (weights .entry)) (now (ones .exit))) (entriesFor (now (weights .entry)) (now (zeros .exit)))
         (now (ws .entry)) (now (ws .exit))
-        (walkFrom (now (weights .entry)) (entriesFor (now (weights .entry)) (now (ones .entry))) (entriesFor (now (weights .entry)) (now (zeros .entry))) group)
+        (walkFrom (now (weights .entry)) (now (planes .entry)) (entriesFor (now (weights .entry)) (now (ones .entry))) (entriesFor (now (weights .entry)) (now (zeros .entry))) group)
         (firstGroups (now (walked .entry)) (now (paid .entry)) at) (firstGroups (now (walked .exit)) (now (paid .exit)) r) at r
         × LentLists (now (ones .exit)) (now (zeros .exit)) (now (walked .exit)) (now (paid .exit))
         × Lent (now (joined .exit)) (now (limits .exit)) (now (used .exit)) (now (tree .exit)) ⌝ }
@@ -100,6 +103,7 @@ pub fn grow(
     }
     let handed = split_first(
         weights,
+        planes,
         ones,
         zeros,
         group,
@@ -114,6 +118,7 @@ pub fn grow(
     let next = put_group(true, walked, paid, at, group, handed.cost);
     walk(
         weights,
+        planes,
         ones,
         zeros,
         ws,
@@ -134,6 +139,7 @@ pub fn grow(
 // The first k parts of a list built one after the other; each has fewer than `bound` taxa.
 fn walk(
     weights: &[u16],
+    planes: &[u64; 8],
     ones: &mut [u64; 256],
     zeros: &mut [u64; 256],
     ws: &mut [i32],
@@ -155,15 +161,15 @@ fn walk(
         × (0 < bound)
         × LentLists (now ones) (now zeros) (now walked) (now paid)
         × Lent (now joined) (now limits) (now used) (now tree) ⌝ }
-    requires { ⌜ Ready (now weights) (entriesFor (now weights) (now ones)) (entriesFor (now weights) (now zeros)) 0 n (now ws) ⌝ }
+    requires { ⌜ Ready (now weights) (now planes) (entriesFor (now weights) (now ones)) (entriesFor (now weights) (now zeros)) 0 n (now ws) ⌝ }
     requires { ⌜
         Room
-        (at + length (walkOver (now weights) (entriesFor (now weights) (now ones)) (entriesFor (now weights) (now zeros)) (take k (now list)) .groups))
+        (at + length (walkOver (now weights) (now planes) (entriesFor (now weights) (now ones)) (entriesFor (now weights) (now zeros)) (take k (now list)) .groups))
         (now walked) (now paid) ⌝ }
     ensures { λ r. ⌜
         Grown (now (weights .entry)) (entriesFor (now (weights .entry)) (now (ones .exit))) (entriesFor (now (weights .entry)) (now (zeros .exit)))
         (now (ws .entry)) (now (ws .exit))
-        (walkOver (now (weights .entry)) (entriesFor (now (weights .entry)) (now (ones .entry))) (entriesFor (now (weights .entry)) (now (zeros .entry)))
+        (walkOver (now (weights .entry)) (now (planes .entry)) (entriesFor (now (weights .entry)) (now (ones .entry))) (entriesFor (now (weights .entry)) (now (zeros .entry)))
         (take k (now (list .entry))))
         (firstGroups (now (walked .entry)) (now (paid .entry)) at) (firstGroups (now (walked .exit)) (now (paid .exit)) r) at r
         × LentLists (now (ones .exit)) (now (zeros .exit)) (now (walked .exit)) (now (paid .exit))
@@ -174,6 +180,7 @@ fn walk(
         let part = list[i];
         end = grow(
             weights,
+            planes,
             ones,
             zeros,
             ws,

@@ -74,6 +74,7 @@ fn write_answer(
 // The walk from all taxa. The lists of the search and of the parts stand only while the tree grows. Returns how many groups there are.
 fn grow_all(
     weights: &[u16],
+    planes: &[u64; 8],
     ones: &mut [u64; 256],
     zeros: &mut [u64; 256],
     n: usize,
@@ -82,15 +83,15 @@ fn grow_all(
     paid: &mut [u32; 63],
 ) -> usize
     requires { ⌜
-        Ready (now weights) (entriesFor (now weights) (now ones)) (entriesFor (now weights) (now zeros)) (all n) n (now workspace)
+        Ready (now weights) (now planes) (entriesFor (now weights) (now ones)) (entriesFor (now weights) (now zeros)) (all n) n (now workspace)
         × LentLists (now ones) (now zeros) (now walked) (now paid) ⌝ }
     requires { ⌜
-        Room (length (walkFrom (now weights) (entriesFor (now weights) (now ones)) (entriesFor (now weights) (now zeros)) (all n) .groups))
+        Room (length (walkFrom (now weights) (now planes) (entriesFor (now weights) (now ones)) (entriesFor (now weights) (now zeros)) (all n) .groups))
         (now walked) (now paid) ⌝ }
     ensures { λ r. ⌜
         Grown (now (weights .entry)) (entriesFor (now (weights .entry)) (now (ones .exit))) (entriesFor (now (weights .entry)) (now (zeros .exit)))
         (now (workspace .entry)) (now (workspace .exit))
-        (walkFrom (now (weights .entry)) (entriesFor (now (weights .entry)) (now (ones .entry))) (entriesFor (now (weights .entry)) (now (zeros .entry))) (all n))
+        (walkFrom (now (weights .entry)) (now (planes .entry)) (entriesFor (now (weights .entry)) (now (ones .entry))) (entriesFor (now (weights .entry)) (now (zeros .entry))) (all n))
         (firstGroups (now (walked .entry)) (now (paid .entry)) 0) (firstGroups (now (walked .exit)) (now (paid .exit)) r) 0 r
         × LentLists (now (ones .exit)) (now (zeros .exit)) (now (walked .exit)) (now (paid .exit)) ⌝ }
 {
@@ -101,6 +102,7 @@ fn grow_all(
     let mut tree = [0u32; 256];
     grow::grow(
         weights,
+        planes,
         ones,
         zeros,
         workspace,
@@ -126,6 +128,7 @@ fn build_loaded(file: &[u8], n: u16, m: u16, workspace: &mut [i32], out: &mut [u
         × (now (workspace .exit) ≡ cleared (n * m) (now (workspace .entry))) ⌝ }
 {
     let columns = m as usize;
+    let planes = matrix::planes_in(file);
     let mut weights = [0u16; 256];
     let mut ones = [0u64; 256];
     let mut zeros = [0u64; 256];
@@ -140,6 +143,7 @@ fn build_loaded(file: &[u8], n: u16, m: u16, workspace: &mut [i32], out: &mut [u
     let mut paid = [0u32; 63];
     let k = grow_all(
         &weights[..columns],
+        &planes,
         &mut ones,
         &mut zeros,
         n as usize,

@@ -7,6 +7,7 @@ ghost use lib.Dec.{eqb};
 ghost use lib.ListN.{length, getD};
 ghost use Rattle.taxa.specs.Sum.{sum};
 ghost use Rattle.taxa.specs.Sets.{low};
+ghost use Rattle.matrix.specs.Matrix.{columnsAt};
 ghost use Rattle.method.specs.Tree.{column, kept, ordered, flipList};
 ghost use Rattle.split.specs.Columns.{matrixIn};
 ghost use Rattle.tree.specs.Lists as lists;
@@ -136,7 +137,7 @@ pub fn list_flips(
 ) -> usize
     requires { ⌜
         (m ≡ length (matrixIn (now file) .columns))
-        × (12 + 22 * m ≤ length (now file))
+        × (columnsAt (now file) + 22 * m ≤ length (now file))
         × FlipRoom m (now columns) (now ones) (now zeros) ⌝ }
     ensures size { λ r. ⌜ r ≡ length (flipList m (column (matrixIn (now (file .entry)) .columns)) (unweighed (now (ones .entry)) (now (zeros .entry)))) ⌝ }
     ensures list { λ r. ⌜

@@ -60,7 +60,7 @@ largest-requires c κs =
 -- A largest flow from those taxa.
 is-largest : (c : tie.After-largest) →
     let a = begun (lowered (tested c) .before .before) .args in
-    Largest (a .weights .now) (a .joined .now) (a .limits .now) (a .n) (a .m) (c .largest .last .1 .1 .1 .1 .1 .0) (a .group ∩ all (a .u)) (a .u) (a .best .cost) (c .largest .result .size) (c .largest .result .side)
+    Largest (a .weights .now) (a .planes .now) (a .joined .now) (a .limits .now) (a .n) (a .m) (c .largest .last .1 .1 .1 .1 .1 .1 .0) (a .group ∩ all (a .u)) (a .u) (a .best .cost) (c .largest .result .size) (c .largest .result .side)
 is-largest c = rw (is-lower (lowered (tested c))) at (c .largest .ensures .0)
 
 returns-3 : tie.Need-returns-3

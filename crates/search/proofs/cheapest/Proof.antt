@@ -15,11 +15,11 @@ use Rattle.search.proofs.cheapest.Statement.{statement}
 use Rattle.search.proofs.cheapest.Tie as tie
 
 abbrev Inv-loop : tie.InvT-loop
-Inv-loop weights joined limits group n m ws₀ used₀ tree₀ source t best₀ u₀ ws used tree best u =
-    (low n group < u) × (u ≤ n) × Tried weights joined limits n m group (low n group) u (best .cost) (best .other) × Kept (n * m) ws₀ ws × Spare used tree
+Inv-loop weights planes joined limits group n m ws₀ used₀ tree₀ source t best₀ u₀ ws used tree best u =
+    (low n group < u) × (u ≤ n) × Tried weights planes joined limits n m group (low n group) u (best .cost) (best .other) × Kept (n * m) ws₀ ws × Spare used tree
 
 abbrev μ-loop : tie.MeasureT-loop
-μ-loop weights joined limits group n m ws₀ used₀ tree₀ source t best₀ u₀ ws used tree best u = n - u
+μ-loop weights planes joined limits group n m ws₀ used₀ tree₀ source t best₀ u₀ ws used tree best u = n - u
 
 rest-requires : tie.Need-rest-requires Inv-loop μ-loop
 rest-requires c κs = count-pos (c .before .args .n) (omega (arith, c .before .pre .3))
@@ -60,7 +60,7 @@ loop-holds c =
     let a = begun l .args in
     let w = next l in
     let f = rw (begun l .pre .4) at (c .before .largest .ensures) in
-    (omega (arith, w .order), omega (arith, w .small), tried-one (source-low l) (w .in-t) (w .others) (stands (f .0) (omega (arith, f .0 .small))), kept-none (a .n * a .m) (c .before .largest .last .1 .1 .1 .1 .1 .0), f .2)
+    (omega (arith, w .order), omega (arith, w .small), tried-one (source-low l) (w .in-t) (w .others) (stands (f .0) (omega (arith, f .0 .small))), kept-none (a .n * a .m) (c .before .largest .last .1 .1 .1 .1 .1 .1 .0), f .2)
 
 attempt-requires : tie.Need-attempt-requires Inv-loop μ-loop
 attempt-requires c κs =

@@ -39,16 +39,16 @@ fits c = omega (arith, c .single .ensures, pow-lt (below (begun c .args .n) (beg
 network : (c : tie.After-single) →
     let a = begun c .args in
     let made = c .before .before .network-of .last in
-    Net (a .weights .now) (made .1 .1 .1 .1 .1 .0) (made .1 .1 .1 .1 .1 .1 .0) (a .n) (a .m)
+    Net (a .weights .now) (a .planes .now) (made .1 .1 .1 .1 .1 .1 .0) (made .1 .1 .1 .1 .1 .1 .1 .0) (a .n) (a .m)
 network c =
     let made = c .before .before .network-of .ensures in
     net (begun c .pre .0) (made .0) (made .1) (λ k b. omega (arith, c .before .before .before .before .before .before .before .shared-slice-known .given k))
 
 -- The lent lists, with room as before.
-lent : (c : tie.After-single) {U Y : List ℕ} → Spare U Y → let made = c .before .before .network-of .last in Lent (made .1 .1 .1 .1 .1 .0) (made .1 .1 .1 .1 .1 .1 .0) U Y
+lent : (c : tie.After-single) {U Y : List ℕ} → Spare U Y → let made = c .before .before .network-of .last in Lent (made .1 .1 .1 .1 .1 .1 .0) (made .1 .1 .1 .1 .1 .1 .1 .0) U Y
 lent c s = let made = c .before .before .network-of .ensures in record { joins = made .0 .long; limits = made .1 .long; spare = s }
 
-emptied : (c : tie.After-connected) → let a = begun (sourced c) .args in Kept (a .n * a .m) (a .ws .now) (c .connected .last .1 .1 .1 .1 .1 .0)
+emptied : (c : tie.After-connected) → let a = begun (sourced c) .args in Kept (a .n * a .m) (a .ws .now) (c .connected .last .1 .1 .1 .1 .1 .1 .0)
 emptied c = let start = begun (sourced c) in cleared-kept (start .args .ws .now) (c .connected .ensures .1) (start .pre .1)
 
 -- ---- what the calls ask for

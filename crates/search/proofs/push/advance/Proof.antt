@@ -14,11 +14,11 @@ use Rattle.search.proofs.push.advance.Statement.{statement}
 use Rattle.search.proofs.push.advance.Tie as tie
 
 abbrev Inv-loop : tie.InvT-loop
-Inv-loop weights joined limits n m ws₀ used₀ tree sources t size goal first met d j₀ ws used j =
-    Under weights joined limits n m ws₀ used₀ sources t size met tree d ws used j
+Inv-loop weights planes joined limits n m ws₀ used₀ tree sources t size goal first met d j₀ ws used j =
+    Under weights planes joined limits n m ws₀ used₀ sources t size met tree d ws used j
 
 abbrev μ-loop : tie.MeasureT-loop
-μ-loop weights joined limits n m ws₀ used₀ tree sources t size goal first met d j₀ ws used j = turnOf tree j
+μ-loop weights planes joined limits n m ws₀ used₀ tree sources t size goal first met d j₀ ws used j = turnOf tree j
 
 -- The way back from the test of t to the start.
 abbrev begun : tie.Else1 Inv-loop μ-loop → tie.Start Inv-loop μ-loop
@@ -144,14 +144,14 @@ ends c = is-root (c .before .before .loop .inv) (omega arith)
 pushed : (c : tie.Else2 Inv-loop μ-loop) →
     let a = begun (c .before .before .before .before) .args in
     let r = c .before .before .before .before .before .before .reach in
-    Advanced (a .weights .now) (a .joined .now) (a .limits .now) (a .n) (a .m) (c .before .before .loop .ws) (c .before .before .loop .used) (a .sources) (a .t) (a .size)
-    (a .size + widthOf (r .last .1 .1 .1 .1 .1 .1 .1 .0) (a .t)) (r .result)
+    Advanced (a .weights .now) (a .planes .now) (a .joined .now) (a .limits .now) (a .n) (a .m) (c .before .before .loop .ws) (c .before .before .loop .used) (a .sources) (a .t) (a .size)
+    (a .size + widthOf (r .last .1 .1 .1 .1 .1 .1 .1 .1 .0) (a .t)) (r .result)
 pushed c =
     let x = c .before .before .before .before in
     went (c .before .before .loop .inv) (ends c) (reached x) (x .before .before .reach .ensures .0 .tree .link (begun x .args .t) (reached x) (begun x .pre .0 .apart) .some)
 
-add-t19 : tie.Need-add-t19 Inv-loop μ-loop
-add-t19 c = omega (arith, size-small (pushed c .stage .flowing))
+add-t20 : tie.Need-add-t20 Inv-loop μ-loop
+add-t20 c = omega (arith, size-small (pushed c .stage .flowing))
 
 same-length-2 : tie.Need-same-length-2 Inv-loop μ-loop
 same-length-2 c = c .before .before .loop .inv .kept .long
@@ -198,6 +198,6 @@ advance-spec =
     step-requires
     loop-less
     loop-again
-    add-t19
+    add-t20
     same-length-2
     returns-2)

@@ -52,7 +52,7 @@ gate-at-requires c κs =
     let start = begun (joining l) in
     let f = start .pre .0 .ready in
     let b = start .pre .1 in
-    (omega (arith, f .net .columns), omega (arith, f .net .weights), f .net .light (start .args .c) b, entry f b (l .lowest .result) (joins-i l .0), used-fits f b)
+    (omega (arith, f .net .columns), omega (arith, f .net .weights), f .net .light (start .args .c) b, entry f b (l .lowest .result) (joins-i l .0), used-fits f b, l .lowest .ensures .1)
 
 carry-to-requires : tie.Need-carry-to-requires
 carry-to-requires c κs =
@@ -61,13 +61,13 @@ carry-to-requires c κs =
     let start = begun (joining l) in
     let f = start .pre .0 .ready in
     let b = start .pre .1 in
-    rw (g .gate-at .ensures .is-weight) (f .net .light (start .args .c) b, entry f b (start .args .t) (joins-t (joining l)))
+    rw (g .gate-at .ensures .is-weight) (f .net .light (start .args .c) b, entry f b (start .args .t) (joins-t (joining l)), t-low start)
 
 -- What the hop carries.
 carries : (c : tie.After-carry-to) →
     let l = chosen (gated c) in
     let a = begun (joining l) .args in
-    c .carry-to .result ≡ carried (a .weights .now) (a .joined .now) (a .limits .now) (a .n) (a .ws .now) (a .c) (l .lowest .result) (a .t)
+    c .carry-to .result ≡ carried (a .weights .now) (a .planes .now) (a .joined .now) (a .limits .now) (a .n) (a .ws .now) (a .c) (l .lowest .result) (a .t)
 carries c =
     let l = chosen (gated c) in
     let start = begun (joining l) in
@@ -84,7 +84,7 @@ step-requires c κs =
 flows : (c : tie.After-step) →
     let k = c .before .before .before in
     let a = begun (joining (chosen (gated k))) .args in
-    Flowing (a .weights .now) (a .joined .now) (a .limits .now) (a .n) (a .m) (c .step .last .0) (c .step .last .1 .0) (a .sources) (a .t) (a .size + k .carry-to .result)
+    Flowing (a .weights .now) (a .planes .now) (a .joined .now) (a .limits .now) (a .n) (a .m) (c .step .last .0) (c .step .last .1 .0) (a .sources) (a .t) (a .size + k .carry-to .result)
 flows c =
     let k = c .before .before .before in
     let l = chosen (gated k) in

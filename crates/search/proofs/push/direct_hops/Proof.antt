@@ -9,10 +9,10 @@ use Rattle.search.proofs.push.direct_hops.Statement.{statement}
 use Rattle.search.proofs.push.direct_hops.Tie as tie
 
 abbrev Inv-loop : tie.InvT-loop
-Inv-loop weights joined limits n m ws₀ used₀ sources t size₀ c₀ ws used size c = Flowing weights joined limits n m ws used sources t size × Kept (n * m) ws₀ ws
+Inv-loop weights planes joined limits n m ws₀ used₀ sources t size₀ c₀ ws used size c = Flowing weights planes joined limits n m ws used sources t size × Kept (n * m) ws₀ ws
 
 abbrev μ-loop : tie.MeasureT-loop
-μ-loop weights joined limits n m ws₀ used₀ sources t size₀ c₀ ws used size c = m - c
+μ-loop weights planes joined limits n m ws₀ used₀ sources t size₀ c₀ ws used size c = m - c
 
 loop-holds : tie.Need-loop-holds Inv-loop μ-loop
 loop-holds c = let a = c .before .args in (c .before .pre, kept-none (a .n * a .m) (a .ws .now))

@@ -16,11 +16,11 @@ use Rattle.search.proofs.push.largest.Statement.{statement}
 use Rattle.search.proofs.push.largest.Tie as tie
 
 abbrev Inv-loop : tie.InvT-loop
-Inv-loop weights joined limits n m ws₀ used₀ tree₀ sources t bound size cut₀ ws used tree cut =
-    Stage weights joined limits n m ws used sources t (cut .size) (cut .side) × Kept (n * m) ws₀ ws × (length tree ≡ 256)
+Inv-loop weights planes joined limits n m ws₀ used₀ tree₀ sources t bound size cut₀ ws used tree cut =
+    Stage weights planes joined limits n m ws used sources t (cut .size) (cut .side) × Kept (n * m) ws₀ ws × (length tree ≡ 256)
 
 abbrev μ-loop : tie.MeasureT-loop
-μ-loop weights joined limits n m ws₀ used₀ tree₀ sources t bound size cut₀ ws used tree cut = rest-of (cut .size) (has (cut .side) t)
+μ-loop weights planes joined limits n m ws₀ used₀ tree₀ sources t bound size cut₀ ws used tree cut = rest-of (cut .size) (has (cut .side) t)
 
 -- The way back from the direct hops, and from the loop, to the start.
 abbrev begun-at : tie.After-single Inv-loop μ-loop → tie.Start Inv-loop μ-loop
@@ -51,7 +51,7 @@ loop-holds : tie.Need-loop-holds Inv-loop μ-loop
 loop-holds c =
     let a = begun-at c .args in
     let f = c .before .before .direct-hops in
-    (record { flowing = f .ensures .0; side = λ q. absurd (true≢false (sym (reached c) ∙ q)) }, kept-none (a .n * a .m) (f .last .1 .1 .1 .1 .1 .0), begun-at c .pre .5 .tree)
+    (record { flowing = f .ensures .0; side = λ q. absurd (true≢false (sym (reached c) ∙ q)) }, kept-none (a .n * a .m) (f .last .1 .1 .1 .1 .1 .1 .0), begun-at c .pre .5 .tree)
 
 grows-requires : tie.Need-grows-requires Inv-loop μ-loop
 grows-requires c κs = let p = begun c .pre in omega (arith, p .3, p .0 .taxa)

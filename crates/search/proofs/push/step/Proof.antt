@@ -2,7 +2,7 @@
 use borrow.Author.Needs.{needs}
 use native.Mathlib.Omega.{arith}
 use mathlib.Core.Path.{_≡_}
-use Prim.Native.Nat.{_+_, _^_, _<_}
+use Prim.Native.Nat.{_+_, _*_, _^_, _<_}
 use Rattle.taxa.specs.Sum.{sum}
 use Rattle.search.specs.Workspace.{outs}
 use Rattle.search.specs.Network.{nth}
@@ -36,7 +36,7 @@ out-in-requires-3 c κs = omega (arith, can-send (begun (c .before .before) .pre
 out-in-requires-4 : tie.Need-out-in-requires-4
 out-in-requires-4 c κs = let h = c .before .before .before .before in omega (arith, can-send (begun h .pre .0) .to, h .hop .ensures .1 .long)
 
-few : (c : tie.After-out-in4) → c .before .before .out-in3 .result + c .out-in4 .result < 2 ^ 26
+few : (c : tie.After-out-in4) → c .before .before .out-in3 .result + c .out-in4 .result < 3 * 2 ^ 30
 few c =
     let p = begun (hopped c) .pre in
     let e = entries-few (p .0) (p .1) in

@@ -6,6 +6,9 @@ use Rattle.search.proofs.reach.carry_to.Tie as tie
 out-in-requires : tie.Need-out-in-requires
 out-in-requires c κs = search needs
 
+arc-requires : tie.Need-arc-requires
+arc-requires c κs = search needs
+
 inn-in-requires : tie.Need-inn-in-requires
 inn-in-requires c κs = search needs
 
@@ -32,6 +35,7 @@ carry-to-spec =
     tie.close
     (tie.spec
     out-in-requires
+    arc-requires
     inn-in-requires
     spare-requires
     least-requires

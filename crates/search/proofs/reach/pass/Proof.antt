@@ -27,7 +27,7 @@ sender-requires c κs =
 
 leads : (c : tie.After-sender) →
     let a = begun (c .before) .args in
-    Leads (a .weights .now) (a .joined .now) (a .limits .now) (a .n) (a .ws .now) (a .c) (nth (a .joined .now) (a .c) ∩ a .met) (c .sender .result)
+    Leads (a .weights .now) (a .planes .now) (a .joined .now) (a .limits .now) (a .n) (a .ws .now) (a .c) (nth (a .joined .now) (a .c) ∩ a .met) (c .sender .result)
 leads c = rw (c .before .common .ensures) at (c .sender .ensures)
 
 returns-2 : tie.Need-returns-2

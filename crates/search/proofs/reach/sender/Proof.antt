@@ -12,10 +12,10 @@ use Rattle.search.proofs.reach.sender.Statement.{statement}
 use Rattle.search.proofs.reach.sender.Tie as tie
 
 abbrev Inv-loop : tie.InvT-loop
-Inv-loop weights joined limits n m ws used c x found₀ left₀ found left = Seeks weights joined limits n ws c x left found
+Inv-loop weights planes joined limits n m ws used c x found₀ left₀ found left = Seeks weights planes joined limits n ws c x left found
 
 abbrev μ-loop : tie.MeasureT-loop
-μ-loop weights joined limits n m ws used c x found₀ left₀ found left = left
+μ-loop weights planes joined limits n m ws used c x found₀ left₀ found left = left
 
 loop-holds : tie.Need-loop-holds Inv-loop μ-loop
 loop-holds c = seek-start
@@ -32,17 +32,17 @@ gate-at-requires : tie.Need-gate-at-requires Inv-loop μ-loop
 gate-at-requires c κs =
     let start = begun c in
     let p = start .pre in
-    (omega (arith, p .0 .net .columns), omega (arith, p .0 .net .weights), p .0 .net .light (start .args .c) (p .1), entry (p .0) (p .1) (c .lowest .result) (joins c), used-fits (p .0) (p .1))
+    (omega (arith, p .0 .net .columns), omega (arith, p .0 .net .weights), p .0 .net .light (start .args .c) (p .1), entry (p .0) (p .1) (c .lowest .result) (joins c), used-fits (p .0) (p .1), c .lowest .ensures .1)
 
 -- What the gate says of it.
 sends : (c : tie.After-gate-at Inv-loop μ-loop) →
     let a = begun (c .before) .args in
-    c .gate-at .result .sends ≡ sendsOf (a .weights .now) (a .joined .now) (a .limits .now) (a .n) (a .ws .now) (a .c) (a .x) (c .before .lowest .result)
+    c .gate-at .result .sends ≡ sendsOf (a .weights .now) (a .planes .now) (a .joined .now) (a .limits .now) (a .n) (a .ws .now) (a .c) (a .x) (c .before .lowest .result)
 sends c = let p = begun (c .before) .pre in gate-up (p .0) (p .1) (c .gate-at .ensures) (joins (c .before))
 
 free : (c : tie.After-gate-at Inv-loop μ-loop) →
     let a = begun (c .before) .args in
-    max (c .gate-at .result .back) (c .gate-at .result .room) ≡ freeOf (a .weights .now) (a .joined .now) (a .limits .now) (a .n) (a .ws .now) (a .c) (a .x) (c .before .lowest .result)
+    max (c .gate-at .result .back) (c .gate-at .result .room) ≡ freeOf (a .weights .now) (a .planes .now) (a .joined .now) (a .limits .now) (a .n) (a .ws .now) (a .c) (a .x) (c .before .lowest .result)
 free c = let p = begun (c .before) .pre in gate-free (p .0) (p .1) (c .gate-at .ensures) (joins (c .before))
 
 returns : tie.Need-returns Inv-loop μ-loop

@@ -3,6 +3,7 @@ use borrow.Author.Needs.{needs}
 use native.Mathlib.Omega.{arith}
 use Prim.Native.Nat.{_≤_, _-_}
 use lib.ListN.{length}
+use Rattle.taxa.specs.Sets.{multiplicityIn}
 use Rattle.search.specs.Search.{colsOf}
 use Rattle.split.proofs.Filling.{fill-none}
 use Rattle.split.proofs.Flipping.{Flipping, flip-next, all-flipped, still-parallel}
@@ -10,10 +11,10 @@ use Rattle.split.proofs.columns.flip_columns.Statement.{statement}
 use Rattle.split.proofs.columns.flip_columns.Tie as tie
 
 abbrev Inv-loop : tie.InvT-loop
-Inv-loop weights ones₀ zeros₀ group side c₀ c-end ones zeros c = (c ≤ length weights) × Flipping weights ones₀ zeros₀ group side ones zeros c
+Inv-loop weights planes ones₀ zeros₀ group side c₀ c-end ones zeros c = (c ≤ length weights) × Flipping (multiplicityIn planes) weights ones₀ zeros₀ group side ones zeros c
 
 abbrev μ-loop : tie.MeasureT-loop
-μ-loop weights ones₀ zeros₀ group side c₀ c-end ones zeros c = length weights - c
+μ-loop weights planes ones₀ zeros₀ group side c₀ c-end ones zeros c = length weights - c
 
 loop-holds : tie.Need-loop-holds Inv-loop μ-loop
 loop-holds c = (omega arith, record { ones = fill-none _; zeros = fill-none _ })
@@ -62,7 +63,7 @@ unfolding colsOf
 loop-again c =
     let v = c .before .before .before .before .before .loop in
     let pre = c .before .before .before .before .before .before .before .before .before .pre in
-    (omega arith, flip-next _ _ _ _ _ pre (v .inv .1) (omega arith) (c .flip .ensures))
+    (omega arith, flip-next _ _ _ _ _ _ pre (v .inv .1) (omega arith) (c .flip .ensures))
 
 same-length : tie.Need-same-length Inv-loop μ-loop
 same-length c = omega arith
@@ -74,7 +75,7 @@ returns : tie.Need-returns Inv-loop μ-loop
 returns c =
     let v = c .before .loop in
     let pre = c .before .before .before .before .before .pre in
-    (all-flipped _ _ _ _ _ pre (v .inv .1) (omega arith), still-parallel _ _ _ _ _ pre (v .inv .1))
+    (all-flipped _ _ _ _ _ _ pre (v .inv .1) (omega arith), still-parallel _ _ _ _ _ _ pre (v .inv .1))
 
 pub flip-columns-spec : {M : Type 1} → statement M
 flip-columns-spec =

@@ -6,7 +6,7 @@ use Prim.Native.Nat.{ℕ, _<_, _^_}
 use lib.Arith.{le-zero}
 use lib.ListN.{length}
 use mathlib.Core.List.{List}
-use Rattle.taxa.specs.Sets.{count, low}
+use Rattle.taxa.specs.Sets.{Positive, count, low}
 use Rattle.method.specs.Split.{part}
 use Rattle.search.specs.Search.{colsOf}
 use Rattle.split.proofs.Collecting.{Collecting, collect-none, has-room, fewer, collect-one, all-collected}
@@ -34,8 +34,8 @@ room c = let at = c .before .before .before .before .before in has-room _ _ _ _ 
 -- What was found is the part of the lowest taxon left.
 found : (c : tie.After-part Inv-loop μ-loop) →
     let args = c .before .before .before .before .before .before .before .args in
-    (ws : List ℕ) → c .part .result ≡ part 64 (length (args .ones .now)) (colsOf ws (args .ones .now) (args .zeros .now)) (args .group) (low 64 (c .before .before .before .loop .left))
-found c ws = rw (← c .before .lowest .ensures .0) (c .part .ensures ws)
+    (μ : ℕ → ℕ) → Positive μ → (ws : List ℕ) → c .part .result ≡ part 64 μ (length (args .ones .now)) (colsOf ws (args .ones .now) (args .zeros .now)) (args .group) (low 64 (c .before .before .before .loop .left))
+found c μ pos ws = rw (← c .before .lowest .ensures .0) (c .part .ensures μ pos ws)
 
 part-requires : tie.Need-part-requires Inv-loop μ-loop
 part-requires c κs =

@@ -8,7 +8,7 @@ use lib.ListN.{length, take}
 use lib.Pow.{pow-pos}
 use lib.Seq.{length-take-le}
 use borrow.Rule.Slice.PartMut.{take-put}
-use Rattle.taxa.specs.Sets.{count}
+use Rattle.taxa.specs.Sets.{multiplicityIn, count}
 use Rattle.method.specs.Tree.{build}
 use Rattle.search.specs.Network.{Lent}
 use Rattle.search.specs.Search.{colsOf}
@@ -31,35 +31,35 @@ use Rattle.tree.proofs.order.put_group.Reads as put-group-reads
 use Rattle.tree.proofs.grow.+grow+walk.{statement}
 use Rattle.tree.proofs.grow.+grow+walk.Tie.{close}
 
-abbrev μ-grow : Measures 11 grow-kinds.ps ℕ
-μ-grow κs a = 2 * count 64 (a .1 .1 .1 .1 .1 .0) + 1
+abbrev μ-grow : Measures 12 grow-kinds.ps ℕ
+μ-grow κs a = 2 * count 64 (a .1 .1 .1 .1 .1 .1 .0) + 1
 
-abbrev μ-walk : Measures 11 walk-kinds.ps ℕ
-μ-walk κs a = 2 * a .1 .1 .1 .1 .1 .1 .1 .0
+abbrev μ-walk : Measures 12 walk-kinds.ps ℕ
+μ-walk κs a = 2 * a .1 .1 .1 .1 .1 .1 .1 .1 .0
 
 abbrev Inv : walk-lts.InvT-loop
-Inv weights ones₀ zeros₀ ws₀ n list₀ k bound walked₀ paid₀ joined₀ limits₀ used₀ tree₀ at end₀ i₀ ones zeros ws list found paid joined limits used tree end i =
+Inv weights planes ones₀ zeros₀ ws₀ n list₀ k bound walked₀ paid₀ joined₀ limits₀ used₀ tree₀ at end₀ i₀ ones zeros ws list found paid joined limits used tree end i =
     (i ≤ k) × Parallel weights (entriesFor weights ones) (entriesFor weights zeros) × (ws ≡ ws₀) × (length list ≡ length list₀) × (take k list ≡ take k list₀)
     × LentLists ones zeros found paid
-    × Going (build 64 (length weights)) (take k list₀) (colsOf weights (entriesFor weights ones₀) (entriesFor weights zeros₀))
+    × Going (build 64 (multiplicityIn planes) (length weights)) (take k list₀) (colsOf weights (entriesFor weights ones₀) (entriesFor weights zeros₀))
     (colsOf weights (entriesFor weights ones) (entriesFor weights zeros)) (firstGroups walked₀ paid₀ at) (firstGroups found paid end) at end i
     × Lent joined limits used tree
 
 abbrev μ-loop : walk-lts.MeasureT-loop
-μ-loop weights ones₀ zeros₀ ws₀ n list₀ k bound walked₀ paid₀ joined₀ limits₀ used₀ tree₀ at end₀ i₀ ones zeros ws list found paid joined limits used tree end i = k - i
+μ-loop weights planes ones₀ zeros₀ ws₀ n list₀ k bound walked₀ paid₀ joined₀ limits₀ used₀ tree₀ at end₀ i₀ ones zeros ws list found paid joined limits used tree end i = k - i
 
 module _ (t : ℕ) where
-  abbrev grow-at : In 11 grow-kinds.ps
-  grow-at = and 11 grow-kinds.ps (is 11 grow-kinds.ps μ-grow t) grow.Pre
+  abbrev grow-at : In 12 grow-kinds.ps
+  grow-at = and 12 grow-kinds.ps (is 12 grow-kinds.ps μ-grow t) grow.Pre
 
-  abbrev grow-below : In 11 grow-kinds.ps
-  grow-below = and 11 grow-kinds.ps (falls 11 grow-kinds.ps _<_ μ-grow t) grow.Pre
+  abbrev grow-below : In 12 grow-kinds.ps
+  grow-below = and 12 grow-kinds.ps (falls 12 grow-kinds.ps _<_ μ-grow t) grow.Pre
 
-  abbrev walk-at : In 11 walk-kinds.ps
-  walk-at = and 11 walk-kinds.ps (is 11 walk-kinds.ps μ-walk t) walk.Pre
+  abbrev walk-at : In 12 walk-kinds.ps
+  walk-at = and 12 walk-kinds.ps (is 12 walk-kinds.ps μ-walk t) walk.Pre
 
-  abbrev walk-below : In 11 walk-kinds.ps
-  walk-below = and 11 walk-kinds.ps (falls 11 walk-kinds.ps _<_ μ-walk t) walk.Pre
+  abbrev walk-below : In 12 walk-kinds.ps
+  walk-below = and 12 walk-kinds.ps (falls 12 walk-kinds.ps _<_ μ-walk t) walk.Pre
 
   abbrev grow-calls : grow-lts.Claims
   grow-calls = (size-reads.Asked, size-reads.Learnt, split-first-reads.Asked, split-first-reads.Learnt, put-group-reads.Asked, put-group-reads.Learnt, walk-below, walk.Post)
@@ -133,7 +133,7 @@ module _ (t : ℕ) where
             rw (test .before .size .ensures) (parts-ready ready two (handed .0) _ ps (omega (arith, p .1 .0 .1, fits))),
             fits,
             omega arith,
-            record { ones = kept .1 .0 ∙ held .ones; zeros = kept .1 .1 .0 ∙ held .zeros; walked = put .kept .1 .0 ∙ held .walked; paid = put .kept .1 .1 .0 ∙ held .paid },
+            record { ones = kept .1 .1 .0 ∙ held .ones; zeros = kept .1 .1 .1 .0 ∙ held .zeros; walked = put .kept .1 .0 ∙ held .walked; paid = put .kept .1 .1 .0 ∙ held .paid },
             handed .2,
           ),
           (
@@ -208,7 +208,7 @@ module _ (t : ℕ) where
       let taken = gone-in c .loop-test .taken in
       let here = still-listed (a .k) (l .list) (a .list .now) (l .i) (l .inv .4) (omega (arith, taken)) in
       let now : l .i < length (take (a .k) (a .list .now)) = omega (arith, all, taken) in
-      let kept = take-put (a .k) (length (l .list) - a .k) (l .list) (after .grow .last .1 .1 .1 .1 .1 .1 .0) (omega arith) in (
+      let kept = take-put (a .k) (length (l .list) - a .k) (l .list) (after .grow .last .1 .1 .1 .1 .1 .1 .1 .0) (omega arith) in (
         search needs,
         g .parallel,
         g .workspace ∙ l .inv .2,
@@ -236,8 +236,8 @@ pub +grow+walk-spec : {M : Type 1} → statement M
     (grow-split-first-requires t)
     (grow-put-group-requires t)
     (grow-walk-requires t)
-    (λ c. gone-over t c .walk .kept .1 .1 .1 .0 ∙ parted t c .split-first .kept .1 .1 .1 .1 .1 .0)
-    (λ c. gone-over t c .walk .kept .1 .1 .1 .1 .1 .0 ∙ parted t c .split-first .kept .1 .1 .1 .1 .1 .1 .0)
+    (λ c. gone-over t c .walk .kept .1 .1 .1 .1 .0 ∙ parted t c .split-first .kept .1 .1 .1 .1 .1 .1 .0)
+    (λ c. gone-over t c .walk .kept .1 .1 .1 .1 .1 .1 .0 ∙ parted t c .split-first .kept .1 .1 .1 .1 .1 .1 .1 .0)
     (grow-returns-2 t))
     λ t. walk-lts.spec (walk-calls t) (walk-at t) walk.Post Inv μ-loop
     (walk-loop-holds t)

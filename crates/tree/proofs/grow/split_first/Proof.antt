@@ -11,8 +11,8 @@ use Rattle.tree.proofs.grow.split_first.Statement.{statement}
 use Rattle.tree.proofs.grow.split_first.Tie as tie
 
 -- What the split hands on stands in front of other entries.
-in-front : {ws os zs os′ zs′ : List ℕ} {S : ℕ} {list list′ : List ℕ} {cost k : ℕ} (more-ones more-zeros : List ℕ) → HandsOn ws os zs os′ zs′ S list list′ cost k
-    → HandsOn ws os zs (entriesFor ws (os′ ++ more-ones)) (entriesFor ws (zs′ ++ more-zeros)) S list list′ cost k
+in-front : {ws P os zs os′ zs′ : List ℕ} {S : ℕ} {list list′ : List ℕ} {cost k : ℕ} (more-ones more-zeros : List ℕ) → HandsOn ws P os zs os′ zs′ S list list′ cost k
+    → HandsOn ws P os zs (entriesFor ws (os′ ++ more-ones)) (entriesFor ws (zs′ ++ more-zeros)) S list list′ cost k
 in-front {ws} {os′ = os′} {zs′} more-ones more-zeros h =
     rw (take-at os′ more-ones (length ws) (h .parallel .ones), take-at zs′ more-zeros (length ws) (h .parallel .zeros)) h
 
