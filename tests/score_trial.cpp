@@ -81,7 +81,8 @@ void compare_columns(Columns& columns, Tally& tally, const ScoreCase& given) {
     if (!(unpacked(called(given)) == sum)) tally.differ("the columns add up to " + text(sum), both(given));
 }
 
-void compare(Tally& tally, const ScoreCase& given) {
+// Whether the pair is taken.
+bool compare(Tally& tally, const ScoreCase& given) {
     const ScoreOutcome expected = oracle::score(given.matrix, given.answer);
     const std::uint64_t packed = called(given);
     const ScoreOutcome found = unpacked(packed);
@@ -90,6 +91,7 @@ void compare(Tally& tally, const ScoreCase& given) {
     if (!(found == expected)) tally.differ("expected " + text(expected) + ", found " + text(found) + which, both(given));
     if (packed != packed_number(expected)) tally.differ("bits beside the fields" + which, both(given));
     tally.agreed(expected.refusal.number, given.matrix);
+    return !expected.refusal.refused();
 }
 
 // A specimen with its own answer.
@@ -143,8 +145,7 @@ int main(int argc, char** argv) {
     heaviest_cases(tally, random);
     for (unsigned long k = 0; k < words.count; ++k) {
         const ScoreCase given = gen::score_case(random);
-        compare(tally, given);
-        if (!oracle::score(given.matrix, given.answer).refusal.refused()) compare_columns(columns, tally, given);
+        if (compare(tally, given)) compare_columns(columns, tally, given);
     }
     tally.finish({0, 1, 2, 3, 4, 5, 6, 7, 8, 12, 13, 14, 15, 21});
     std::printf("score: %lu columns one by one, %lu of them without a 1\n", columns.with_a_one + columns.without,

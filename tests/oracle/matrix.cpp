@@ -46,8 +46,7 @@ Column read_column(RecordReader& reader, unsigned n) {
 std::uint64_t mass(const Matrix& matrix, TaxonSet set) {
     if (matrix.multiplicities.empty()) return size(set);
     std::uint64_t sum = 0;
-    for (unsigned taxon = 0; set != 0; ++taxon, set /= 2)
-        if (set % 2 == 1) sum += matrix.multiplicities[taxon];
+    for (; set != 0; set &= set - 1) sum += matrix.multiplicities[__builtin_ctzll(set)];
     return sum;
 }
 
