@@ -2,8 +2,8 @@
  *
  * Each function answers one packed 64-bit number. Where bit 63 is set the
  * file was refused, and flipcut_number and flipcut_place say why and where
- * (the table of document 01). Where it is clear the call succeeded, and the
- * functions named below take the result apart.
+ * (the table of document 01; 21 is document 02's C-14). Where it is clear the
+ * call succeeded, and the functions named below take the result apart.
  *
  * A file is a pointer and a length in bytes; a null pointer is the empty file.
  * Nothing is written through it and nothing is kept.
@@ -91,7 +91,8 @@ static inline unsigned flipcut_columns(uint64_t packed) {
     return flipcut_refused(packed) ? 0 : (unsigned)flipcut_bits(packed, 16, 16);
 }
 
-/* flipcut_score: what is raised from 0 to 1, each times its column's weight and its taxon's multiplicity, 0 on a refusal. */
+/* flipcut_score: what is raised from 0 to 1, each times its column's weight and its taxon's
+ * multiplicity, 0 on a refusal. */
 static inline uint32_t flipcut_raises(uint64_t packed) {
     return flipcut_refused(packed) ? 0 : (uint32_t)flipcut_bits(packed, 31, 31);
 }

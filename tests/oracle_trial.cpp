@@ -45,7 +45,7 @@ void specimen_numbers(Tally& tally) {
         tally.differ("the score of specimen 2 with multiplicities", merged);
 }
 
-// A matrix without multiplicities that stands for one with them: each taxon becomes as many as it stood for, in the same
+// A matrix without multiplicities in place of one with them: each taxon stands there as often as its multiplicity says, in the same
 // order, and a column of their own holds these together, at a weight that no division pays.
 class Unmerged {
 public:
@@ -74,7 +74,7 @@ private:
     std::array<oracle::TaxonSet, 64> copies_{};
 };
 
-// Listing divisions and the network find the same one, and the network the same where the specimens are taxa.
+// Listing divisions and the network find the same one, and the network the same one where taxa are repeated in place of multiplicities.
 void division_case(Tally& tally, gen::Random& random) {
     const unsigned n = static_cast<unsigned>(random.between(2, 11));
     const unsigned m = static_cast<unsigned>(random.between(0, 14));
