@@ -205,6 +205,10 @@ module _ {W P J L : List ℕ} {n m s : ℕ} (S : ℕ) (z : Net W P J L n m) (ws 
 
 -- ---- the lowest taxa of a group
 
+-- The lowest of 64 is that of n, and y is it alone.
+pub source-is : (n : ℕ) {S x y : ℕ} → n ≤ 64 → S < 2 ^ n → 1 < count n S → x ≡ low 64 S → y ≡ 2 ^ x → y ≡ 2 ^ low n S
+source-is n l f two u v = v ∙ ap (λ (i : ℕ). 2 ^ i) (u ∙ sym (low-width l (count-pos n (omega arith)) f))
+
 -- t is the lowest taxon of S but s.
 pub record Second (S n s t : ℕ) : Type 0 where
   pub small : t < n

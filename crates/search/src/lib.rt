@@ -185,7 +185,7 @@ fn attempt(
     }
 }
 
-// The least that parts a taxon of the group from its lowest, the source, and the first such taxon.
+// The least that parts a taxon of the group from its lowest, and the first such taxon.
 fn cheapest(
     weights: &[u16],
     planes: &[u64; 8],
@@ -197,20 +197,19 @@ fn cheapest(
     ws: &mut [i32],
     used: &mut [u32; 256],
     tree: &mut [u32; 256],
-    source: u64,
 ) -> Best
     requires { ⌜
         Net (now weights) (now planes) (now joined) (now limits) n m
         × (n * m ≤ length (now ws))
         × (group < 2 ^ n)
         × (1 < count n group)
-        × (source ≡ 2 ^ low n group)
         × Spare (now used) (now tree) ⌝ }
     ensures { λ r. ⌜
         Tried (now (weights .entry)) (now (planes .entry)) (now (joined .entry)) (now (limits .entry)) n m group (low n group) n (r .cost) (r .other)
         × Kept (n * m) (now (ws .entry)) (now (ws .exit))
         × Spare (now (used .exit)) (now (tree .exit)) ⌝ }
 {
+    let source = taxa::single(taxa::lowest(group));
     let t = taxa::lowest(taxa::rest(group)) as usize;
     let cut = push::largest(
         weights,
@@ -281,19 +280,8 @@ pub fn divide(
         × Lent (now (joined .exit)) (now (limits .exit)) (now (used .exit)) (now (tree .exit)) ⌝ }
 {
     network_of(weights, planes, ones, zeros, group, m, joined, limits);
-    let source = taxa::single(taxa::lowest(group));
-    let met = connected(
-        weights,
-        planes,
-        joined,
-        limits,
-        n,
-        m,
-        ws,
-        used,
-        tree,
-        source,
-    );
+    let s = taxa::single(taxa::lowest(group));
+    let met = connected(weights, planes, joined, limits, n, m, ws, used, tree, s);
     let off = taxa::difference(group, met);
     if 0 < off {
         return Split {
@@ -302,19 +290,7 @@ pub fn divide(
             other: taxa::lowest(off) as usize,
         };
     }
-    let t = cheapest(
-        weights,
-        planes,
-        joined,
-        limits,
-        group,
-        n,
-        m,
-        ws,
-        used,
-        tree,
-        source,
-    ).other;
+    let t = cheapest(weights, planes, joined, limits, group, n, m, ws, used, tree).other;
     let cut = push::largest(
         weights,
         planes,
@@ -325,7 +301,7 @@ pub fn divide(
         ws,
         used,
         tree,
-        source,
+        s,
         t,
         4294967295,
     );

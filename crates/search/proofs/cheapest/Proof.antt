@@ -2,15 +2,16 @@
 use borrow.Author.Needs.{needs}
 use native.Mathlib.Omega.{arith}
 use mathlib.Core.Path.{_≡_}
-use Prim.Native.Nat.{_<_, _≤_, _-_, _*_}
+use Prim.Native.Nat.{_<_, _≤_, _-_, _*_, _^_}
 use lib.Pow.{pow-lt}
 use Rattle.taxa.specs.Sets.{low}
 use Rattle.taxa.proofs.Counts.{count-pos}
+use Rattle.taxa.proofs.Members.{in-pos}
 use Rattle.search.specs.Workspace.{Kept}
 use Rattle.search.specs.Network.{Spare}
 use Rattle.search.specs.Trying.{Tried}
 use Rattle.search.proofs.Workspace.{kept-none, kept-then}
-use Rattle.search.proofs.Group.{pow-off, stands, tried-one, some-rest, second, Second}
+use Rattle.search.proofs.Group.{pow-off, stands, tried-one, source-is, some-rest, second, Second}
 use Rattle.search.proofs.cheapest.Statement.{statement}
 use Rattle.search.proofs.cheapest.Tie as tie
 
@@ -21,27 +22,36 @@ Inv-loop weights planes joined limits group n m ws₀ used₀ tree₀ source t b
 abbrev μ-loop : tie.MeasureT-loop
 μ-loop weights planes joined limits group n m ws₀ used₀ tree₀ source t best₀ u₀ ws used tree best u = n - u
 
-rest-requires : tie.Need-rest-requires Inv-loop μ-loop
-rest-requires c κs = count-pos (c .before .args .n) (omega (arith, c .before .pre .3))
-
 lowest-requires : tie.Need-lowest-requires Inv-loop μ-loop
-lowest-requires c κs = let p = c .before .before .pre in some-rest (c .before .before .args .n) (p .0 .taxa) (p .2) (p .3) (c .rest .ensures .0)
+lowest-requires c κs = count-pos (c .before .args .n) (omega (arith, c .before .pre .3))
 
-next : (c : tie.After-lowest Inv-loop μ-loop) → let a = c .before .before .before .args in Second (a .group) (a .n) (low (a .n) (a .group)) (c .lowest .result)
-next c = let p = c .before .before .before .pre in second (c .before .before .before .args .n) (p .0 .taxa) (p .2) (p .3) (c .before .rest .ensures .0) (c .lowest .ensures .0) (c .lowest .ensures .2)
+rest-requires : tie.Need-rest-requires Inv-loop μ-loop
+rest-requires c κs = in-pos (c .before .lowest .ensures .2)
+
+lowest-requires-2 : tie.Need-lowest-requires-2 Inv-loop μ-loop
+lowest-requires-2 c κs = let start = c .before .before .before .before in let p = start .pre in some-rest (start .args .n) (p .0 .taxa) (p .2) (p .3) (c .rest .ensures .0)
+
+abbrev begun : tie.After-lowest2 Inv-loop μ-loop → tie.Start Inv-loop μ-loop
+begun c = c .before .before .before .before .before
+
+next : (c : tie.After-lowest2 Inv-loop μ-loop) → let a = begun c .args in Second (a .group) (a .n) (low (a .n) (a .group)) (c .lowest2 .result)
+next c = let p = begun c .pre in second (begun c .args .n) (p .0 .taxa) (p .2) (p .3) (c .before .rest .ensures .0) (c .lowest2 .ensures .0) (c .lowest2 .ensures .2)
 
 -- The way back from the first flow, and from the loop.
-abbrev found : tie.After-largest Inv-loop μ-loop → tie.After-lowest Inv-loop μ-loop
+abbrev found : tie.After-largest Inv-loop μ-loop → tie.After-lowest2 Inv-loop μ-loop
 found c = c .before .before .before .before
 
 abbrev flowed : tie.At-loop Inv-loop μ-loop → tie.After-largest Inv-loop μ-loop
 flowed c = c .before .before
 
-abbrev begun : tie.After-lowest Inv-loop μ-loop → tie.Start Inv-loop μ-loop
-begun c = c .before .before .before
-
 -- The source is the lowest taxon alone.
-source-low : (c : tie.After-lowest Inv-loop μ-loop) → low (begun c .args .n) (begun c .args .group) < begun c .args .n
+is-source : (c : tie.After-lowest2 Inv-loop μ-loop) → c .before .before .single .result ≡ 2 ^ low (begun c .args .n) (begun c .args .group)
+is-source c =
+    let p = begun c .pre in
+    let single = c .before .before in
+    source-is (begun c .args .n) (p .0 .taxa) (p .2) (p .3) (single .before .lowest .ensures .0) (single .single .ensures)
+
+source-low : (c : tie.After-lowest2 Inv-loop μ-loop) → low (begun c .args .n) (begun c .args .group) < begun c .args .n
 source-low c = let w = next c in omega (arith, w .order, w .small)
 
 largest-requires : tie.Need-largest-requires Inv-loop μ-loop
@@ -49,17 +59,17 @@ largest-requires c κs =
     let l = c .before .before .before in
     let p = begun l .pre in
     let w = next l in
-    (p .0, p .1, rw (p .4) (pow-lt (source-low l)), w .small, rw (p .4) (pow-off {s = low (begun l .args .n) (begun l .args .group)} (λ e. omega (arith, w .order))), p .5)
+    (p .0, p .1, rw (is-source l) (pow-lt (source-low l)), w .small, rw (is-source l) (pow-off {s = low (begun l .args .n) (begun l .args .group)} (λ e. omega (arith, w .order))), p .4)
 
 add-u : tie.Need-add-u Inv-loop μ-loop
-add-u c = omega (arith, found (c .before) .lowest .ensures .1)
+add-u c = omega (arith, found (c .before) .lowest2 .ensures .1)
 
 loop-holds : tie.Need-loop-holds Inv-loop μ-loop
 loop-holds c =
     let l = found (c .before) in
     let a = begun l .args in
     let w = next l in
-    let f = rw (begun l .pre .4) at (c .before .largest .ensures) in
+    let f = rw (is-source l) at (c .before .largest .ensures) in
     (omega (arith, w .order), omega (arith, w .small), tried-one (source-low l) (w .in-t) (w .others) (stands (f .0) (omega (arith, f .0 .small))), kept-none (a .n * a .m) (c .before .largest .last .1 .1 .1 .1 .1 .1 .0), f .2)
 
 attempt-requires : tie.Need-attempt-requires Inv-loop μ-loop
@@ -93,8 +103,10 @@ cheapest-spec =
     (tie.spec
     Inv-loop
     μ-loop
-    rest-requires
     lowest-requires
+    (λ c κs. search needs)
+    rest-requires
+    lowest-requires-2
     (λ c. search needs)
     largest-requires
     add-u

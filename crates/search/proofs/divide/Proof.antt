@@ -1,17 +1,17 @@
 -- `search::divide` meets its contract: the taxon whose flow runs last is the first that is parted for the least.
 use borrow.Author.Needs.{needs}
 use native.Mathlib.Omega.{arith}
-use mathlib.Core.Path.{_≡_, sym, ap, _∙_}
+use mathlib.Core.Path.{_≡_}
 use mathlib.Core.List.{List}
 use Prim.Native.Nat.{ℕ, _<_, _*_, _^_}
 use lib.Pow.{pow-lt}
 use Rattle.taxa.specs.Sets.{low}
 use Rattle.taxa.proofs.Counts.{count-pos}
-use Rattle.taxa.proofs.Members.{below, low-width}
+use Rattle.taxa.proofs.Members.{below}
 use Rattle.search.specs.Workspace.{Kept}
 use Rattle.search.specs.Network.{Net, Spare, Lent}
 use Rattle.search.proofs.Workspace.{cleared-kept, kept-then}
-use Rattle.search.proofs.Group.{pow-off, parted-off, net, stands, divided, divided-free}
+use Rattle.search.proofs.Group.{pow-off, source-is, parted-off, net, stands, divided, divided-free}
 use Rattle.search.proofs.divide.Statement.{statement}
 use Rattle.search.proofs.divide.Tie as tie
 
@@ -31,7 +31,7 @@ connected c = c .before .before .before .before .before .before .before .before 
 is-low : (c : tie.After-single) → c .single .result ≡ 2 ^ low (begun c .args .n) (begun c .args .group)
 is-low c =
     let g = begun c .pre .0 in
-    c .single .ensures ∙ ap (λ (x : ℕ). 2 ^ x) (c .before .lowest .ensures .0 ∙ sym (low-width (g .taxa) (count-pos (begun c .args .n) (omega (arith, g .two))) (g .group)))
+    source-is (begun c .args .n) (g .taxa) (g .group) (g .two) (c .before .lowest .ensures .0) (c .single .ensures)
 
 fits : (c : tie.After-single) → c .single .result < 2 ^ begun c .args .n
 fits c = omega (arith, c .single .ensures, pow-lt (below (begun c .args .n) (begun c .pre .0 .group) (c .before .lowest .ensures .2)))
@@ -67,7 +67,7 @@ cheapest-requires c κs =
     let met = c .before .before .before .before .before .before .before .before in
     let l = sourced met in
     let p = begun l .pre in
-    (network l, omega (arith, p .1, emptied met .long), p .0 .group, p .0 .two, is-low l, met .connected .ensures .2)
+    (network l, omega (arith, p .1, emptied met .long), p .0 .group, p .0 .two, met .connected .ensures .2)
 
 largest-requires : tie.Need-largest-requires
 largest-requires c κs =
