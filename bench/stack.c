@@ -1,5 +1,5 @@
-// The most stack that the operations use over the matrices of cases.h, the heavy ones with multiplicities too, a split's group being all taxa. Build and split are measured in a
-// library where both call the search's `divide`, and in one that has no other operation: there the compiler puts it into its only caller.
+// The most stack that the operations use over the matrices of cases.h, the heavy ones with multiplicities too, a split's group being all taxa.
+// Build and split are measured in a library where both call the search's `divide`, and in one that has no other operation: there the compiler puts it into its only caller.
 // Ends with 1 where one uses more than document 02's C-16 allows, or where the check or the score uses more than include/flipcut.h says.
 //   stack FOLDER   also writes the matrices there, as files
 #define _GNU_SOURCE

@@ -74,7 +74,8 @@ private:
     std::array<oracle::TaxonSet, 64> copies_{};
 };
 
-// Listing divisions and the network find the same one, and the network the same one where taxa are repeated in place of multiplicities.
+// Listing divisions and the network find the same one, and the network finds it too where taxa are repeated in place of
+// multiplicities.
 void division_case(Tally& tally, gen::Random& random) {
     const unsigned n = static_cast<unsigned>(random.between(2, 11));
     const unsigned m = static_cast<unsigned>(random.between(0, 14));

@@ -34,7 +34,8 @@ void compare(Tally& tally, gen::Random& random, const SplitCase& given) {
     tally.agreed(refusal.number, given.file);
 }
 
-// Every group of specimens 1 and 2, the second with multiplicities, lawful or not, with the workspace just long enough and one too short.
+// Every group of specimens 1 and 2, the second with multiplicities, lawful or not, with the workspace just long enough and
+// one too short.
 void specimen_cases(Tally& tally, gen::Random& random) {
     for (oracle::TaxonSet group = 0; group < 32; ++group)
         for (std::size_t workspace : {11u, 12u, 13u}) compare(tally, random, {specimens()[0].file, group, workspace});
