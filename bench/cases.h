@@ -9,10 +9,10 @@
 #include <time.h>
 #include <ucontext.h>
 
-enum { N = 64, M = 256, FILE_LENGTH = 12 + 22 * M, OUT_LENGTH = 20 + 16 * (N - 1) + 22 * M, STACK = 1 << 20 };
+enum { N = 64, M = 256, MOST_FILE_LENGTH = 12 + 22 * M + 4 + N, OUT_LENGTH = 20 + 16 * (N - 1) + 22 * M, STACK = 1 << 20 };
 enum { RANDOM, DENSE, SPARSE, INTERVAL, NESTED, NOISY, UNKNOWN, CLUSTERS, COMBS, PAIRS, KINDS, CASES = 2 * KINDS };
 static int taxa, columns;  // of the case made last
-static uint8_t file[FILE_LENGTH];
+static uint8_t file[MOST_FILE_LENGTH];
 static size_t file_length;
 static uint16_t weights[M];
 static uint64_t ones0[M], zeros0[M];
@@ -94,6 +94,15 @@ static inline void make_case(int k, int n, int m) {
         at = number(number(number(head(at, 18, 2), weights[c], 2), ones0[c], 8), zeros0[c], 8);
     }
     file_length = (size_t)(head(at, 0, 3) - file);
+}
+
+// Puts multiplicities of 1, 2 and 3 in turn into the file of the case made last: 64 taxa then stand for 127 specimens, the most there may be.
+static inline void add_multiplicities(void) {
+    uint8_t *at = file + 8;
+    memmove(at + 4 + taxa, at, file_length - 8);
+    at = head(at, (unsigned)taxa, 5);
+    for (int i = 0; i < taxa; i++) *at++ = (uint8_t)(1 + i % 3);
+    file_length += 4 + (size_t)taxa;
 }
 
 // Runs an operation on a stack of its own, painted before; the lowest byte that changed says how deep it went.

@@ -25,14 +25,14 @@ fn put(out: &mut [u64], at: usize, x: u64)
 }
 
 #[no_mangle]
-pub extern "C" fn search_group(weights: &[u16], ones: &[u64], zeros: &[u64], group: u64, n: usize, m: usize, ws: &mut [i32], out: &mut [u64])
-    requires { ⌜ Given (now weights) (now ones) (now zeros) group n m × (n * m ≤ length (now ws)) × (3 ≤ length (now out)) ⌝ }
+pub extern "C" fn search_group(weights: &[u16], planes: &[u64; 8], ones: &[u64], zeros: &[u64], group: u64, n: usize, m: usize, ws: &mut [i32], out: &mut [u64])
+    requires { ⌜ Given (now weights) (now planes) (now ones) (now zeros) group n m × (n * m ≤ length (now ws)) × (3 ≤ length (now out)) ⌝ }
 {
     let mut joined = [0u64; 256];
     let mut limits = [0u32; 256];
     let mut used = [0u32; 256];
     let mut tree = [0u32; 256];
-    let found = search::divide(weights, ones, zeros, group, n, m, ws, &mut joined, &mut limits, &mut used, &mut tree);
+    let found = search::divide(weights, planes, ones, zeros, group, n, m, ws, &mut joined, &mut limits, &mut used, &mut tree);
     put(out, 0, wide(found.cost));
     put(out, 1, found.side);
     put(out, 2, found.other as u64);

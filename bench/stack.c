@@ -1,5 +1,5 @@
-// The most stack that the operations use over the matrices of cases.h, a split's group being all taxa. Build and split are measured in a
-// library where both call the search's `divide`, and in one that has no other operation: there the compiler puts it into its only caller.
+// The most stack that the operations use over the matrices of cases.h, the heavy ones with multiplicities too, a split's group being all taxa.
+// Build and split are measured in a library where both call the search's `divide`, and in one that has no other operation: there the compiler puts it into its only caller.
 // Ends with 1 where one uses more than document 02's C-16 allows, or where the check or the score uses more than include/flipcut.h says.
 //   stack FOLDER   also writes the matrices there, as files
 #define _GNU_SOURCE
@@ -17,13 +17,13 @@ uint64_t split_alone(const uint8_t *file, size_t len, uint64_t group, int32_t *w
 static uint8_t out[OUT_LENGTH];
 static uint64_t result[5];
 
-static void build_of_one(void) { result[2] = build_alone(file, FILE_LENGTH, ws, N * M, out, OUT_LENGTH); }
-static void build_of_two(void) { probe_build(file, FILE_LENGTH, ws, N * M, out, OUT_LENGTH, result, 5); }
-static void split_of_one(void) { result[3] = split_alone(file, FILE_LENGTH, ~0ull, ws, N * M); }
-static void split_of_two(void) { probe_split(file, FILE_LENGTH, ~0ull, ws, N * M, result, 5); }
+static void build_of_one(void) { result[2] = build_alone(file, file_length, ws, N * M, out, OUT_LENGTH); }
+static void build_of_two(void) { probe_build(file, file_length, ws, N * M, out, OUT_LENGTH, result, 5); }
+static void split_of_one(void) { result[3] = split_alone(file, file_length, ~0ull, ws, N * M); }
+static void split_of_two(void) { probe_split(file, file_length, ~0ull, ws, N * M, result, 5); }
 
-static void check(void) { result[0] = flipcut_taxa(flipcut_check(file, FILE_LENGTH)); }
-static void score(void) { result[1] = !flipcut_refused(flipcut_score(file, FILE_LENGTH, out, result[2])); }
+static void check(void) { result[0] = flipcut_taxa(flipcut_check(file, file_length)); }
+static void score(void) { result[1] = !flipcut_refused(flipcut_score(file, file_length, out, result[2])); }
 
 // In this order, since the score is of the build's answer.
 static struct {
@@ -41,14 +41,14 @@ static struct {
 };
 enum { OPERATIONS = sizeof operations / sizeof *operations };
 
-// The file of case k; bench/stack.sh gives it to the program `outline`.
-static int write_file(const char *folder, int k) {
+// The file made last, of case k; bench/stack.sh gives it to the program `outline`.
+static int write_file(const char *folder, int k, int merged) {
     char name[4096];
-    snprintf(name, sizeof name, "%s/%s-%s.matrix", folder, kind_name(k), weight_name(k));
+    snprintf(name, sizeof name, "%s/%s-%s%s.matrix", folder, kind_name(k), weight_name(k), merged ? "-merged" : "");
     FILE *f = fopen(name, "wb");
     if (!f) return 0;
-    size_t written = fwrite(file, 1, FILE_LENGTH, f);
-    return fclose(f) == 0 && written == FILE_LENGTH;
+    size_t written = fwrite(file, 1, file_length, f);
+    return fclose(f) == 0 && written == file_length;
 }
 
 // False where an operation refused: then it used less stack than it may need.
@@ -66,8 +66,10 @@ int main(int count, char **words) {
     if (count != 2) return 2;
     for (int k = 0; k < CASES; k++) {
         make_case(k, N, M);
-        if (!write_file(words[1], k) || !measure()) {
-            printf("%s %s: not written, or refused\n", kind_name(k), weight_name(k));
+        for (int merged = 0; merged <= is_heavy(k); merged++) {
+            if (merged) add_multiplicities();
+            if (write_file(words[1], k, merged) && measure()) continue;
+            printf("%s %s%s: not written, or refused\n", kind_name(k), weight_name(k), merged ? ", with multiplicities" : "");
             return 1;
         }
     }

@@ -1,6 +1,7 @@
 #!/usr/bin/env bash
 # Prints the most stack that the operations check, build, split and score, and the program `outline`, use over ten kinds of matrices of 64 taxa
-# and 256 columns, and ends with 1 where one of them uses more than document 02's C-16 allows (the limits stand in bench/stack.c and tests/env.sh).
+# and 256 columns, the heavy ones with multiplicities too, and ends with 1 where one of them uses more than document 02's C-16 allows (the limits
+# stand in bench/stack.c and tests/env.sh).
 # A library with one operation has one caller of the search.
 set -euo pipefail
 here=$(cd "$(dirname "$0")" && pwd -P)

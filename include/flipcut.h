@@ -2,8 +2,8 @@
  *
  * Each function answers one packed 64-bit number. Where bit 63 is set the
  * file was refused, and flipcut_number and flipcut_place say why and where
- * (the table of document 01). Where it is clear the call succeeded, and the
- * functions named below take the result apart.
+ * (the table of document 01; 21 is document 02's C-14). Where it is clear the
+ * call succeeded, and the functions named below take the result apart.
  *
  * A file is a pointer and a length in bytes; a null pointer is the empty file.
  * Nothing is written through it and nothing is kept.
@@ -24,8 +24,7 @@
 extern "C" {
 #endif
 
-/* Checks a matrix file. Refusals: 1 to 8, and 21 at a record of multiplicities. Success: flipcut_taxa,
- * flipcut_columns. */
+/* Checks a matrix file. Refusals: 1 to 8, 21. Success: flipcut_taxa, flipcut_columns. */
 uint64_t flipcut_check(const uint8_t *file, size_t len);
 
 /* Scores the tree of an answer file against a matrix file. Refusals: the matrix's (1 to 8, 21), then the
@@ -92,13 +91,13 @@ static inline unsigned flipcut_columns(uint64_t packed) {
     return flipcut_refused(packed) ? 0 : (unsigned)flipcut_bits(packed, 16, 16);
 }
 
-/* flipcut_score: what is raised from 0 to 1, each entry times its column's weight and its taxon's
+/* flipcut_score: what is raised from 0 to 1, each times its column's weight and its taxon's
  * multiplicity, 0 on a refusal. */
 static inline uint32_t flipcut_raises(uint64_t packed) {
     return flipcut_refused(packed) ? 0 : (uint32_t)flipcut_bits(packed, 31, 31);
 }
 
-/* flipcut_score: what is lowered from 1 to 0, alike. */
+/* flipcut_score: what is lowered from 1 to 0, weighed the same way, 0 on a refusal. */
 static inline uint32_t flipcut_lowers(uint64_t packed) {
     return flipcut_refused(packed) ? 0 : (uint32_t)flipcut_bits(packed, 0, 31);
 }

@@ -189,7 +189,7 @@ void built_answers(Tallies& tallies, gen::Random& random) {
     for (unsigned n : {1u, 2u, 5u, 9u, 64u}) {
         const unsigned m = n < 10 ? 4 : 2;
         const oracle::Answer answer =
-            oracle::answer_of(gen::random_matrix(random, n, m, gen::Style{gen::Shape::free, gen::Weights::any, 100}));
+            oracle::answer_of(gen::random_matrix(random, n, m, gen::Style{gen::Shape::free, gen::Weights::any, 100, n > 2}));
         const oracle::Bytes file = oracle::answer_file(answer);
         const std::size_t list = answer.flips.size();
         compare_read(tallies, random, {file, list});

@@ -34,7 +34,7 @@ void compare(Tally& tally, gen::Random& random, const BuildCase& given) {
         cleared = size.n * size.m;
     }
     if (!workspace.holds(std::vector<std::int32_t>(cleared, 0))) tally.differ("the workspace" + which, given.file);
-    tally.agreed(refusal.number);
+    tally.agreed(refusal.number, given.file);
 }
 
 // Buffers just long enough, and each of them one too short.
@@ -60,8 +60,10 @@ int main(int argc, char** argv) {
     Tally tally("build", words.folder);
     gen::Random random(5);
     for (const Specimen& specimen : specimens()) edge_cases(tally, random, specimen.file);
+    // The largest costs, where numbers of 32 bits are the nearest to running over.
+    for (unsigned n : {2u, 3u, 4u, 8u, 12u}) edge_cases(tally, random, oracle::matrix_file(gen::heaviest_matrix(random, n)));
     for (int k = 0; k < 200; ++k) edge_cases(tally, random, oracle::matrix_file(gen::random_matrix(random)));
     for (unsigned long k = 0; k < words.count; ++k) compare(tally, random, gen::build_case(random));
-    tally.finish({0, 1, 2, 3, 4, 5, 6, 7, 8, 9, 10});
+    tally.finish({0, 1, 2, 3, 4, 5, 6, 7, 8, 9, 10, 21});
     return 0;
 }

@@ -48,13 +48,13 @@ void compare(Tally& tally, const Bytes& file) {
     const CheckOutcome found = unpacked(packed);
     if (!(found == expected)) tally.differ("expected " + text(expected) + ", found " + text(found), file);
     if (packed != packed_number(expected)) tally.differ("bits beside the fields of the packed number", file);
-    tally.agreed(expected.refusal.number);
+    tally.agreed(expected.refusal.number, file);
 }
 
 void specimen_cases(Tally& tally) {
     for (const Specimen& specimen : specimens()) {
         if (unpacked(called(specimen.file)).refusal != specimen.refusal)
-            tally.differ("specimen " + specimen.name + " is not as document 01 says", specimen.file);
+            tally.differ("specimen " + specimen.name + " is not as the documents say", specimen.file);
         compare(tally, specimen.file);
     }
 }
@@ -75,13 +75,36 @@ void every_size(Tally& tally, gen::Random& random) {
 void every_prefix_and_byte(Tally& tally, gen::Random& random) {
     for (unsigned n : {1u, 3u, 8u, 9u, 63u, 64u})
         for (unsigned m : {0u, 1u, 2u, 7u}) {
-            const Bytes file = oracle::matrix_file(gen::random_matrix(random, n, m, gen::random_style(random)));
+            gen::Style style = gen::random_style(random);
+            style.merged = m == 1;
+            const Bytes file = oracle::matrix_file(gen::random_matrix(random, n, m, style));
             for (const Bytes& other : gen::prefixes(file)) compare(tally, other);
             for (const Bytes& other : gen::byte_changes(file)) compare(tally, other);
         }
     // The largest file, where a column's place needs more than a byte.
-    const Bytes largest = oracle::matrix_file(gen::random_matrix(random, 64, 256, gen::Style{}));
+    const Bytes largest = oracle::matrix_file(gen::heaviest_matrix(random, 64));
     for (const Bytes& other : gen::prefixes(largest)) compare(tally, other);
+}
+
+// One taxon with every multiplicity, two with those at the edges of what is taken and of a byte.
+void every_multiplicity(Tally& tally) {
+    for (unsigned only = 0; only < 256; ++only) compare(tally, oracle::matrix_file({1, {static_cast<std::uint8_t>(only)}, {}}));
+    const Bytes edges{0, 1, 2, 63, 64, 65, 126, 127, 128, 129, 200, 254, 255};
+    for (std::uint8_t first : edges)
+        for (std::uint8_t second : edges) compare(tally, oracle::matrix_file({2, {first, second}, {}}));
+}
+
+// Every sum around the most there may be, and the record missing, elsewhere, twice and of other lengths.
+void every_record_of_multiplicities(Tally& tally, gen::Random& random) {
+    for (unsigned n : {1u, 2u, 3u, 63u, 64u}) {
+        oracle::Matrix matrix = gen::random_matrix(random, n, 2, gen::Style{});
+        for (unsigned sum : {127u, 128u, 255u, 256u, 257u, 383u, 384u, 512u}) {
+            matrix.multiplicities = gen::multiplicities_of_sum(random, n, sum);
+            compare(tally, oracle::matrix_file(matrix));
+        }
+        matrix.multiplicities = gen::random_multiplicities(random, n);
+        for (const Bytes& other : gen::misplaced_multiplicities(matrix)) compare(tally, other);
+    }
 }
 
 void random_cases(Tally& tally, gen::Random& random, unsigned long count) {
@@ -103,7 +126,9 @@ int main(int argc, char** argv) {
     null_pointer(tally);
     every_size(tally, random);
     every_prefix_and_byte(tally, random);
+    every_multiplicity(tally);
+    every_record_of_multiplicities(tally, random);
     random_cases(tally, random, words.count);
-    tally.finish({0, 1, 2, 3, 4, 5, 6, 7, 8});
+    tally.finish({0, 1, 2, 3, 4, 5, 6, 7, 8, 21});
     return 0;
 }

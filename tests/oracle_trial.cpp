@@ -1,6 +1,7 @@
 // The independent program by itself: document 01's specimens, its two ways to divide against each
 // other, and what document 01 says of every answer.
 //   oracle_trial FOLDER [COUNT]
+#include <array>
 
 #include "gen/matrices.h"
 #include "oracle/build.h"
@@ -23,11 +24,11 @@ void specimen_cases(Tally& tally) {
             tally.differ("the check of specimen " + specimen.name, specimen.file);
         if (!specimen.printed.empty() && oracle::outline(specimen.file) != specimen.printed)
             tally.differ("the outline of specimen " + specimen.name, specimen.file);
-        tally.agreed(specimen.refusal.number);
+        tally.agreed(specimen.refusal.number, specimen.file);
     }
 }
 
-// Lengths and scores that the document gives.
+// Lengths and scores that the documents give.
 void specimen_numbers(Tally& tally) {
     const std::size_t large = 1 << 16;
     const Bytes first = specimens()[0].file, single = specimens()[5].file, zeros = specimens()[6].file;
@@ -39,9 +40,42 @@ void specimen_numbers(Tally& tally) {
         tally.differ("the score of specimen 1", first);
     if (!(oracle::score(zeros, zeros_answer) == oracle::ScoreOutcome{{}, 0, 0}))
         tally.differ("the score of specimen 7", zeros);
+    const Bytes merged = specimens()[merged_second].file;
+    if (!(oracle::score(merged, oracle::build(merged, large, large).file) == oracle::ScoreOutcome{{}, 0, 1}))
+        tally.differ("the score of specimen 2 with multiplicities", merged);
 }
 
-// Listing divisions and the network find the same one.
+// A matrix without multiplicities in place of one with them: each taxon stands there as often as its multiplicity says, in the same
+// order, and a column of their own holds these together, at a weight that no division pays.
+class Unmerged {
+public:
+    explicit Unmerged(const Matrix& matrix) {
+        for (unsigned taxon = 0; taxon < matrix.n; ++taxon)
+            for (std::uint64_t k = oracle::mass(matrix, oracle::only(taxon)); k > 0; --k)
+                copies_[taxon] |= oracle::only(unmerged.n++);
+        for (const oracle::Column& column : matrix.columns)
+            unmerged.columns.push_back({column.weight, all(column.ones), all(column.zeros)});
+        for (oracle::TaxonSet copies : copies_)
+            unmerged.columns.push_back({std::uint64_t{1} << 40, copies, oracle::all_taxa(unmerged.n) & ~copies});
+    }
+
+    oracle::TaxonSet all(oracle::TaxonSet taxa) const {
+        oracle::TaxonSet set = 0;
+        for (unsigned taxon : oracle::members(taxa)) set |= copies_[taxon];
+        return set;
+    }
+    oracle::Division all(const oracle::Division& division) const {
+        return {division.cost, all(division.side), oracle::lowest(copies_[division.t])};
+    }
+
+    Matrix unmerged;
+
+private:
+    std::array<oracle::TaxonSet, 64> copies_{};
+};
+
+// Listing divisions and the network find the same one, and the network finds it too where taxa are repeated in place of
+// multiplicities.
 void division_case(Tally& tally, gen::Random& random) {
     const unsigned n = static_cast<unsigned>(random.between(2, 11));
     const unsigned m = static_cast<unsigned>(random.between(0, 14));
@@ -49,15 +83,22 @@ void division_case(Tally& tally, gen::Random& random) {
     oracle::TaxonSet group = oracle::all_taxa(n);
     if (random.chance(50)) group &= random.bits();
     if (oracle::size(group) < 2) group = oracle::all_taxa(n);
-    if (!(oracle::division_by_listing(matrix.columns, group) == oracle::division_by_network(matrix.columns, group)))
-        tally.differ("listing and network, group " + std::to_string(group), oracle::matrix_file(matrix));
-    tally.agreed(0);
+    const Bytes file = oracle::matrix_file(matrix);
+    const std::string which = ", group " + std::to_string(group);
+    const oracle::Division division = oracle::division_by_listing(matrix, group);
+    if (!(division == oracle::division_by_network(matrix, group))) tally.differ("listing and network" + which, file);
+    if (!matrix.multiplicities.empty() && oracle::mass(matrix, oracle::all_taxa(n)) <= 64) {
+        const Unmerged apart(matrix);
+        if (!(apart.all(division) == oracle::division_by_network(apart.unmerged, apart.all(group))))
+            tally.differ("multiplicities and as many taxa" + which, file);
+    }
+    tally.agreed(0, file);
 }
 
 std::uint64_t weighed_flips(const Matrix& matrix, const Answer& answer) {
     std::uint64_t sum = 0;
     for (const oracle::Flip& flip : answer.flips)
-        sum += matrix.columns[flip.column].weight * oracle::size(flip.raised | flip.lowered);
+        sum += matrix.columns[flip.column].weight * oracle::mass(matrix, flip.raised | flip.lowered);
     return sum;
 }
 
@@ -78,7 +119,7 @@ void build_case(Tally& tally, gen::Random& random) {
     const oracle::ScoreOutcome score = oracle::score(file, written);
     if (score.raises + score.lowers > answer.value.total) tally.differ("a score above the total", file);
     if (style.shape == gen::Shape::tree && answer.value.total != 0) tally.differ("flips for a tree's own matrix", file);
-    tally.agreed(0);
+    tally.agreed(0, file);
 }
 
 // Document 01's trap: {0,5,6}, {5,6}, {1,2} is the walking order.
@@ -91,7 +132,7 @@ void order_case(Tally& tally) {
     if (oracle::outline(file) !=
         "taxa 7 columns 3 total 0\ngroup 7f cost 0\ngroup 61 cost 0\ngroup 6 cost 0\ngroup 60 cost 0\n")
         tally.differ("groups are not in file order", file);
-    tally.agreed(0);
+    tally.agreed(0, file);
 }
 
 }  // namespace
@@ -107,6 +148,6 @@ int main(int argc, char** argv) {
         division_case(tally, random);
         build_case(tally, random);
     }
-    tally.finish({0});
+    tally.finish({0, 21});
     return 0;
 }

@@ -43,12 +43,12 @@ public:
         const Printed found = run_program(command_, input_);
         if (!found.ended_well) tally_.differ("the program failed", file);
         if (found.text != text) tally_.differ(first_difference(text, found.text), file);
-        tally_.agreed(oracle::check(file).refusal.number);
+        tally_.agreed(oracle::check(file).refusal.number, file);
     }
 
     void compare(const Bytes& file) { expect(file, oracle::outline(file)); }
 
-    void finish() const { tally_.finish({0, 1, 2, 3, 4, 5, 6, 7, 8}); }
+    void finish() const { tally_.finish({0, 1, 2, 3, 4, 5, 6, 7, 8, 21}); }
 
 private:
     Tally tally_;
@@ -63,18 +63,18 @@ void specimen_cases(OutlineTrial& trial) {
     }
 }
 
-// The largest size in every style.
+// The largest size in every style, the half known ones with multiplicities.
 void largest_cases(OutlineTrial& trial, gen::Random& random) {
     for (gen::Shape shape : {gen::Shape::free, gen::Shape::tree, gen::Shape::noisy_tree, gen::Shape::intervals,
                              gen::Shape::blocks})
         for (gen::Weights weights : {gen::Weights::one, gen::Weights::heavy})
             for (unsigned known : {100u, 50u, 8u})
-                trial.compare(oracle::matrix_file(gen::random_matrix(random, 64, 256, {shape, weights, known})));
+                trial.compare(oracle::matrix_file(gen::random_matrix(random, 64, 256, {shape, weights, known, known == 50})));
 }
 
 // Column c has the taxa from c on, so that a split takes one taxon off and the next has all the others; turned entries make flows run.
 oracle::Matrix nested(gen::Random& random, std::uint64_t heaviest, unsigned turned_percent) {
-    oracle::Matrix matrix{64, {}};
+    oracle::Matrix matrix{64, {}, {}};
     for (unsigned c = 0; c < 256; ++c) {
         oracle::Column column{random.between(1, heaviest), 0, 0};
         for (unsigned taxon = 0; taxon < 64; ++taxon) {
@@ -86,18 +86,22 @@ oracle::Matrix nested(gen::Random& random, std::uint64_t heaviest, unsigned turn
     return matrix;
 }
 
-// The deepest trees of the largest size: where the program needs the most stack.
+// The deepest trees of the largest size: where the program needs the most stack. Those of heavy columns have multiplicities.
 void deep_cases(OutlineTrial& trial, gen::Random& random) {
     for (std::uint64_t heaviest : {4u, 65535u})
-        for (unsigned turned_percent : {0u, 1u, 5u, 15u})
-            trial.compare(oracle::matrix_file(nested(random, heaviest, turned_percent)));
+        for (unsigned turned_percent : {0u, 1u, 5u, 15u}) {
+            oracle::Matrix matrix = nested(random, heaviest, turned_percent);
+            if (heaviest > 4) matrix.multiplicities = gen::multiplicities_of_sum(random, 64, gen::most_specimens);
+            trial.compare(oracle::matrix_file(matrix));
+        }
 }
 
 // Far more bytes than a matrix can have: before, at and after a buffer for the largest.
 void long_files(OutlineTrial& trial, gen::Random& random) {
-    const Bytes largest = oracle::matrix_file(gen::random_matrix(random, 64, 256, gen::Style{}));
+    const Bytes largest = oracle::matrix_file(gen::heaviest_matrix(random, 64));
+    const Bytes without = oracle::matrix_file(gen::random_matrix(random, 64, 256, gen::Style{}));
     for (std::size_t more : {1u, 2u, 3u, 4u, 4096u, 100000u}) {
-        for (Bytes file : {specimens()[0].file, largest}) {
+        for (Bytes file : {specimens()[0].file, without, largest}) {
             file.resize(file.size() + more);
             trial.compare(file);
         }
@@ -126,6 +130,7 @@ int main(int argc, char** argv) {
     specimen_cases(trial);
     for (const Bytes& file : gen::prefixes(specimens()[0].file)) trial.compare(file);
     for (const Bytes& file : gen::byte_changes(specimens()[0].file)) trial.compare(file);
+    for (const Bytes& file : gen::prefixes(specimens()[merged_second].file)) trial.compare(file);
     random_cases(trial, random, std::strtoul(argv[2], nullptr, 10));
     largest_cases(trial, random);
     long_files(trial, random);

@@ -3,6 +3,7 @@
 #include "flipcut.h"
 #include "gen/cases.h"
 #include "gen/damage.h"
+#include "gen/matrices.h"
 #include "lent.h"
 #include "oracle/build.h"
 #include "oracle/score.h"
@@ -66,8 +67,8 @@ void compare_columns(Columns& columns, Tally& tally, const ScoreCase& given) {
     const Bytes tree_file = oracle::answer_file(tree);
     ScoreOutcome sum;
     for (const oracle::Column& column : matrix.columns) {
-        const ScoreCase alone{oracle::matrix_file({matrix.n, {column}}), tree_file};
-        const oracle::Flips before = oracle::nearest_flips(column, tree.value);
+        const ScoreCase alone{oracle::matrix_file({matrix.n, matrix.multiplicities, {column}}), tree_file};
+        const oracle::Flips before = oracle::nearest_flips(matrix, column, tree.value);
         const bool without = column.ones == 0;
         const ScoreOutcome expected = without ? ScoreOutcome{} : ScoreOutcome{{}, before.raises, before.lowers};
         const ScoreOutcome found = unpacked(called(alone));
@@ -80,7 +81,8 @@ void compare_columns(Columns& columns, Tally& tally, const ScoreCase& given) {
     if (!(unpacked(called(given)) == sum)) tally.differ("the columns add up to " + text(sum), both(given));
 }
 
-void compare(Tally& tally, const ScoreCase& given) {
+// Whether the pair is taken.
+bool compare(Tally& tally, const ScoreCase& given) {
     const ScoreOutcome expected = oracle::score(given.matrix, given.answer);
     const std::uint64_t packed = called(given);
     const ScoreOutcome found = unpacked(packed);
@@ -88,17 +90,28 @@ void compare(Tally& tally, const ScoreCase& given) {
                               " bytes, and then the answer)";
     if (!(found == expected)) tally.differ("expected " + text(expected) + ", found " + text(found) + which, both(given));
     if (packed != packed_number(expected)) tally.differ("bits beside the fields" + which, both(given));
-    tally.agreed(expected.refusal.number);
+    tally.agreed(expected.refusal.number, given.matrix);
+    return !expected.refusal.refused();
 }
 
-// Specimens 1 and 7, whose scores documents 01 and 02 give, and the first with damage in either file.
-void specimen_cases(Tally& tally) {
+// A specimen with its own answer.
+ScoreCase specimen_case(std::size_t which) {
     const std::size_t large = 1 << 16;
-    const Bytes first = specimens()[0].file, zeros = specimens()[6].file;
-    const ScoreCase one{first, oracle::build(first, large, large).file};
-    const ScoreCase seven{zeros, oracle::build(zeros, large, large).file};
+    const Bytes matrix = specimens()[which].file;
+    return {matrix, oracle::build(matrix, large, large).file};
+}
+
+// Specimens 1 and 7, whose scores documents 01 and 02 give, and 2 with multiplicities: column 0 lowers {0} and column 1
+// nothing. The first also with damage in either file, the last with its matrix cut and changed.
+void specimen_cases(Tally& tally) {
+    const ScoreCase one = specimen_case(0), seven = specimen_case(6), merged = specimen_case(merged_second);
     if (!(unpacked(called(one)) == ScoreOutcome{{}, 0, 2})) tally.differ("the score of specimen 1", both(one));
     if (!(unpacked(called(seven)) == ScoreOutcome{{}, 0, 0})) tally.differ("the score of specimen 7", both(seven));
+    if (!(unpacked(called(merged)) == ScoreOutcome{{}, 0, 1}))
+        tally.differ("the score of specimen 2 with multiplicities", both(merged));
+    compare(tally, merged);
+    for (const Bytes& other : gen::byte_changes(merged.matrix)) compare(tally, {other, merged.answer});
+    for (const Bytes& other : gen::prefixes(merged.matrix)) compare(tally, {other, merged.answer});
     for (const Bytes& other : gen::byte_changes(one.matrix)) compare(tally, {other, one.answer});
     for (const Bytes& other : gen::byte_changes(one.answer)) compare(tally, {one.matrix, other});
     for (const Bytes& other : gen::prefixes(one.answer)) compare(tally, {one.matrix, other});
@@ -109,6 +122,18 @@ void specimen_cases(Tally& tally) {
     if (no_answer != packed_number(oracle::score(one.matrix, {}))) tally.differ("a null pointer for the answer", one.matrix);
 }
 
+// The largest scores: against the tree that has no group but the whole.
+void heaviest_cases(Tally& tally, gen::Random& random) {
+    for (unsigned n : {2u, 3u, 12u, 64u}) {
+        oracle::Answer star;
+        star.value.n = static_cast<std::uint16_t>(n);
+        star.value.m = 256;
+        star.value.group_count = 1;
+        star.value.groups[0] = oracle::Group{oracle::all_taxa(n), 0};
+        compare(tally, {oracle::matrix_file(gen::heaviest_matrix(random, n)), oracle::answer_file(star)});
+    }
+}
+
 }  // namespace
 
 int main(int argc, char** argv) {
@@ -117,12 +142,12 @@ int main(int argc, char** argv) {
     gen::Random random(7);
     Columns columns;
     specimen_cases(tally);
+    heaviest_cases(tally, random);
     for (unsigned long k = 0; k < words.count; ++k) {
         const ScoreCase given = gen::score_case(random);
-        compare(tally, given);
-        if (!oracle::score(given.matrix, given.answer).refusal.refused()) compare_columns(columns, tally, given);
+        if (compare(tally, given)) compare_columns(columns, tally, given);
     }
-    tally.finish({0, 1, 2, 3, 4, 5, 6, 7, 8, 12, 13, 14, 15});
+    tally.finish({0, 1, 2, 3, 4, 5, 6, 7, 8, 12, 13, 14, 15, 21});
     std::printf("score: %lu columns one by one, %lu of them without a 1\n", columns.with_a_one + columns.without,
                 columns.without);
     return 0;

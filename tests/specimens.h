@@ -1,6 +1,7 @@
-// The specimens of document 01, with what it says of each.
+// The specimens of document 01, with what it says of each, and those of document 02's C-14 after them.
 #pragma once
 
+#include <cstddef>
 #include <string>
 #include <vector>
 
@@ -10,7 +11,10 @@ struct Specimen {
     std::string name;
     oracle::Bytes file;
     oracle::Refusal refusal;  // number 0: taken
-    std::string printed;      // by `outline`; empty where the document does not give it
+    std::string printed;      // by `outline`; empty where the documents do not give it
 };
 
 std::vector<Specimen> specimens();
+
+// Where among them specimen 2 stands with multiplicities 1, 1, 2.
+constexpr std::size_t merged_second = 15;

@@ -2,6 +2,8 @@
 
 #include <utility>
 
+#include "matrices.h"
+
 namespace gen {
 
 namespace {
@@ -68,9 +70,28 @@ void drop_record(Random& random, Bytes& file) {
     file = joined(records);
 }
 
+// A record of multiplicities, with as many bytes as are given; its length is `length`.
+Bytes multiplicity_record(std::size_t length, const Bytes& multiplicities) {
+    Bytes record{static_cast<std::uint8_t>(length % 256), static_cast<std::uint8_t>(length / 256), 5, 0};
+    record.insert(record.end(), multiplicities.begin(), multiplicities.end());
+    return record;
+}
+
+// Mostly straight after the head, and of the head's number of taxa.
+void add_multiplicities(Random& random, Bytes& file) {
+    Records records = records_of(file);
+    if (records.empty() || file.size() <= oracle::frame_length) return;
+    const unsigned taxa = file[oracle::frame_length];
+    const unsigned n = taxa >= 1 && taxa <= 64 && random.chance(80) ? taxa : static_cast<unsigned>(random.between(1, 64));
+    const Bytes multiplicities = random.chance(70) ? random_multiplicities(random, n) : unlawful_multiplicities(random, n);
+    const std::size_t place = random.chance(80) ? 1 : random.below(records.size() + 1);
+    records.insert(records.begin() + static_cast<std::ptrdiff_t>(place), multiplicity_record(n, multiplicities));
+    file = joined(records);
+}
+
 using Accident = void (*)(Random&, Bytes&);
 constexpr Accident accidents[] = {cut,          add_bytes,    change_byte,   change_byte, turn_bit,     turn_bit,
-                                  take_out_byte, change_count, swap_records, double_record, drop_record};
+                                  take_out_byte, change_count, swap_records, double_record, drop_record, add_multiplicities};
 
 }  // namespace
 
@@ -120,8 +141,48 @@ Bytes damaged(Random& random, Bytes file) {
     return file;
 }
 
+std::vector<Bytes> misplaced_multiplicities(const oracle::Matrix& matrix) {
+    const Bytes& multiplicities = matrix.multiplicities;
+    const Bytes record = multiplicity_record(matrix.n, multiplicities);
+    const Records whole = records_of(oracle::matrix_file(matrix));
+    Records without = whole;
+    without.erase(without.begin() + 1);
+    std::vector<Bytes> files{joined(without)};
+    for (const Records& records : {without, whole})
+        for (std::size_t place = 0; place <= records.size(); ++place) {
+            Records other = records;
+            other.insert(other.begin() + static_cast<std::ptrdiff_t>(place), record);
+            files.push_back(joined(other));
+        }
+    for (std::size_t length = 0; length <= matrix.n + 1; ++length) {
+        Bytes fitted = multiplicities;
+        fitted.resize(length, 1);
+        for (const Bytes& held : {multiplicities, fitted}) {
+            Records other = whole;
+            other[1] = multiplicity_record(length, held);
+            files.push_back(joined(other));
+        }
+    }
+    return files;
+}
+
+Bytes unlawful_multiplicities(Random& random, unsigned n) {
+    Bytes lawful = random_multiplicities(random, n), ones(n, 1);
+    const std::uint64_t taxon = random.below(n);
+    switch (random.below(7)) {
+        case 0: return ones;
+        case 1: ones[taxon] = 0; return ones;
+        case 2: lawful[taxon] = 0; return lawful;
+        case 3: lawful[taxon] = 255; return lawful;
+        case 4: return multiplicities_of_sum(random, n, most_specimens + 1);
+        case 5: return multiplicities_of_sum(random, n, static_cast<unsigned>(random.between(256, 256 + most_specimens)));
+        default: return multiplicities_of_sum(random, n, static_cast<unsigned>(random.between(most_specimens + 1, 1000)));
+    }
+}
+
 Bytes unlawful_matrix(Random& random, oracle::Matrix matrix) {
-    if (matrix.columns.empty()) matrix.n = random.chance(50) ? 0 : 65;
+    if (random.chance(20)) matrix.multiplicities = unlawful_multiplicities(random, matrix.n);
+    else if (matrix.columns.empty()) matrix.n = random.chance(50) ? 0 : 65;
     for (std::uint64_t k = matrix.columns.empty() ? 0 : random.between(1, 3); k > 0; --k) {
         oracle::Column& column = matrix.columns[random.below(matrix.columns.size())];
         const oracle::TaxonSet taxon = oracle::only(static_cast<unsigned>(random.below(matrix.n)));
@@ -142,10 +203,11 @@ Bytes random_bytes(Random& random) {
         add_bytes(random, file);
         return file;
     }
-    const std::uint8_t kinds[] = {1, 2, 3, 17, 18, 19, 20};
-    const std::uint8_t lengths[] = {4, 18, 0, 12, 12, 18, 0};
+    const std::uint8_t kinds[] = {1, 2, 3, 5, 17, 18, 19, 20};
     for (std::uint64_t k = random.between(1, 6); k > 0; --k) {
-        const std::size_t kind = random.chance(60) && file.empty() ? 0 : random.below(7);
+        const std::uint8_t taxa = file.size() > oracle::frame_length ? file[oracle::frame_length] : 1;
+        const std::uint8_t lengths[] = {4, 18, 0, taxa, 12, 12, 18, 0};
+        const std::size_t kind = random.chance(60) && file.empty() ? 0 : random.below(8);
         const std::uint8_t length = random.chance(95) ? lengths[kind] : random_byte(random);
         for (std::uint8_t byte : {length, std::uint8_t{0}, kinds[kind], std::uint8_t{0}}) file.push_back(byte);
         for (unsigned i = 0; i < length; ++i) file.push_back(i % 2 == 1 ? 0 : random_byte(random));

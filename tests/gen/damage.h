@@ -23,10 +23,17 @@ std::vector<Bytes> records_of(const Bytes& file);
 Bytes joined(const std::vector<Bytes>& records);
 
 // A file with one to three accidents: bytes cut, changed, added, taken out; records swapped,
-// doubled, dropped; a number of the head changed.
+// doubled, dropped; a number of the head changed; a record of multiplicities put in.
 Bytes damaged(Random& random, Bytes file);
 
-// A matrix file whose records are well formed while what one or two columns hold is not allowed.
+// The file of a matrix that has multiplicities, with their record left out, at every other place, at every place a second time,
+// and with every length from 0 to n+1 but its own, the bytes that follow going with the length or not.
+std::vector<Bytes> misplaced_multiplicities(const oracle::Matrix& matrix);
+
+// One multiplicity for each taxon: a 0 among them, or all 1, or a sum above 127, also one that a byte has no room for.
+Bytes unlawful_multiplicities(Random& random, unsigned n);
+
+// A matrix file whose records are well formed while what the multiplicities or one to three columns hold is not allowed.
 Bytes unlawful_matrix(Random& random, oracle::Matrix matrix);
 
 // Bytes that came from no file: plain noise, or records of random kinds and small numbers.

@@ -1,13 +1,18 @@
 #include "matrices.h"
 
+#include <algorithm>
+
 namespace gen {
 
 using oracle::all_taxa;
+using oracle::Bytes;
 using oracle::Column;
 using oracle::Matrix;
 using oracle::TaxonSet;
 
 namespace {
+
+constexpr unsigned most_in_a_byte = 255;
 
 std::uint64_t random_weight(Random& random, Weights weights) {
     switch (weights) {
@@ -91,7 +96,30 @@ Style random_style(Random& random) {
     style.weights = static_cast<Weights>(random.below(4));
     // Blocks hold together only where most entries are known.
     style.known_percent = known[random.below(style.shape == Shape::blocks ? 3 : 6)];
+    style.merged = random.below(3) == 0;
     return style;
+}
+
+// What is above 1 each goes to few taxa or to any, and where one is full, to the next.
+Bytes multiplicities_of_sum(Random& random, unsigned n, unsigned sum) {
+    Bytes multiplicities(n, 1);
+    const std::uint64_t first = random.below(n);
+    const std::uint64_t reach = random.chance(50) ? n : random.between(1, 3);
+    for (unsigned given = n; given < std::min(sum, most_in_a_byte * n); ++given) {
+        std::uint64_t taxon = (first + random.below(reach)) % n;
+        while (multiplicities[taxon] == most_in_a_byte) taxon = (taxon + 1) % n;
+        ++multiplicities[taxon];
+    }
+    return multiplicities;
+}
+
+Bytes random_multiplicities(Random& random, unsigned n) {
+    switch (random.below(4)) {
+        case 0: return multiplicities_of_sum(random, n, most_specimens);
+        case 1: return multiplicities_of_sum(random, n, n + 1);
+        case 2: return multiplicities_of_sum(random, n, std::min(2 * n, most_specimens));
+        default: return multiplicities_of_sum(random, n, static_cast<unsigned>(random.between(n + 1, most_specimens)));
+    }
 }
 
 Matrix random_matrix(Random& random, unsigned n, unsigned m, const Style& style) {
@@ -103,6 +131,13 @@ Matrix random_matrix(Random& random, unsigned n, unsigned m, const Style& style)
         const Column entries = random_entries(random, n, style.shape, pattern);
         matrix.columns.push_back(Column{random_weight(random, style.weights), entries.ones & known, entries.zeros & known});
     }
+    if (style.merged) matrix.multiplicities = random_multiplicities(random, n);
+    return matrix;
+}
+
+Matrix heaviest_matrix(Random& random, unsigned n) {
+    Matrix matrix = random_matrix(random, n, 256, Style{Shape::free, Weights::heavy, 100, false});
+    matrix.multiplicities = multiplicities_of_sum(random, n, most_specimens);
     return matrix;
 }
 

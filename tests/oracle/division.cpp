@@ -9,13 +9,13 @@ namespace oracle {
 
 namespace {
 
-std::uint64_t division_cost(const std::vector<Column>& columns, TaxonSet group, TaxonSet side) {
+std::uint64_t division_cost(const Matrix& matrix, TaxonSet group, TaxonSet side) {
     std::uint64_t cost = 0;
-    for (const Column& column : columns) {
+    for (const Column& column : matrix.columns) {
         if (!participates(column, group)) continue;
-        const unsigned a = size(column.ones & side);
-        const unsigned b = size(column.ones & group & ~side);
-        const unsigned z = size(column.zeros & group);
+        const std::uint64_t a = mass(matrix, column.ones & side);
+        const std::uint64_t b = mass(matrix, column.ones & group & ~side);
+        const std::uint64_t z = mass(matrix, column.zeros & group);
         cost += column.weight * std::min({a, b, z});
     }
     return cost;
@@ -39,15 +39,16 @@ struct Vertices {
     static std::size_t out_of(std::size_t column) { return 65 + 2 * column; }
 };
 
-Network network_of(const std::vector<Column>& columns, TaxonSet group) {
-    Network network(64 + 2 * columns.size());
-    for (std::size_t c = 0; c < columns.size(); ++c) {
-        if (!participates(columns[c], group)) continue;
-        const std::uint64_t weight = columns[c].weight;
-        network.add_arc(Vertices::into(c), Vertices::out_of(c), weight * size(columns[c].zeros & group));
-        for (unsigned taxon : members(columns[c].ones & group)) {
-            network.add_arc(Vertices::of_taxon(taxon), Vertices::into(c), weight);
-            network.add_arc(Vertices::out_of(c), Vertices::of_taxon(taxon), weight);
+Network network_of(const Matrix& matrix, TaxonSet group) {
+    Network network(64 + 2 * matrix.columns.size());
+    for (std::size_t c = 0; c < matrix.columns.size(); ++c) {
+        const Column& column = matrix.columns[c];
+        if (!participates(column, group)) continue;
+        network.add_arc(Vertices::into(c), Vertices::out_of(c), column.weight * mass(matrix, column.zeros & group));
+        for (unsigned taxon : members(column.ones & group)) {
+            const std::uint64_t between = column.weight * mass(matrix, only(taxon));
+            network.add_arc(Vertices::of_taxon(taxon), Vertices::into(c), between);
+            network.add_arc(Vertices::out_of(c), Vertices::of_taxon(taxon), between);
         }
     }
     return network;
@@ -62,10 +63,10 @@ TaxonSet taxa_among(const std::vector<bool>& vertices, TaxonSet group) {
 
 }  // namespace
 
-Division division_by_listing(const std::vector<Column>& columns, TaxonSet group) {
+Division division_by_listing(const Matrix& matrix, TaxonSet group) {
     const std::vector<TaxonSet> sides = all_sides(group);
     std::vector<std::uint64_t> costs;
-    for (TaxonSet side : sides) costs.push_back(division_cost(columns, group, side));
+    for (TaxonSet side : sides) costs.push_back(division_cost(matrix, group, side));
     Division found;
     found.cost = *std::min_element(costs.begin(), costs.end());
     // "Among all least-cost divisions let t be the lowest taxon that any of them parts from s."
@@ -84,9 +85,9 @@ Division division_by_listing(const std::vector<Column>& columns, TaxonSet group)
     return found;
 }
 
-Division division_by_network(const std::vector<Column>& columns, TaxonSet group) {
+Division division_by_network(const Matrix& matrix, TaxonSet group) {
     const unsigned s = lowest(group);
-    Network network = network_of(columns, group);
+    Network network = network_of(matrix, group);
     Division found;
     bool any = false;
     for (unsigned t : members(group & ~only(s))) {
@@ -100,8 +101,8 @@ Division division_by_network(const std::vector<Column>& columns, TaxonSet group)
     return found;
 }
 
-Division least_division(const std::vector<Column>& columns, TaxonSet group) {
-    return size(group) <= most_listed ? division_by_listing(columns, group) : division_by_network(columns, group);
+Division least_division(const Matrix& matrix, TaxonSet group) {
+    return size(group) <= most_listed ? division_by_listing(matrix, group) : division_by_network(matrix, group);
 }
 
 }  // namespace oracle

@@ -23,13 +23,13 @@ struct Division {
 inline bool participates(const Column& column, TaxonSet group) { return (column.zeros & group) != 0; }
 
 // By listing every division of the group and applying the rule word for word.
-Division division_by_listing(const std::vector<Column>& columns, TaxonSet group);
+Division division_by_listing(const Matrix& matrix, TaxonSet group);
 
 // By the largest flows of the network of document 001, from s to each other taxon.
-Division division_by_network(const std::vector<Column>& columns, TaxonSet group);
+Division division_by_network(const Matrix& matrix, TaxonSet group);
 
 // Lists where that is quick, up to this many taxa.
 constexpr unsigned most_listed = 12;
-Division least_division(const std::vector<Column>& columns, TaxonSet group);
+Division least_division(const Matrix& matrix, TaxonSet group);
 
 }  // namespace oracle

@@ -14,6 +14,21 @@ unsigned read_head(RecordReader& reader, unsigned& m) {
     return n;
 }
 
+// "21 where a multiplicity is 0, the sum is above 127, or all are 1"
+Bytes read_multiplicities(RecordReader& reader, unsigned n) {
+    reader.open(Kind::multiplicities, n);
+    Bytes multiplicities;
+    unsigned sum = 0;
+    bool any_zero = false;
+    for (unsigned taxon = 0; taxon < n; ++taxon) {
+        multiplicities.push_back(static_cast<std::uint8_t>(reader.take(1)));
+        sum += multiplicities.back();
+        any_zero = any_zero || multiplicities.back() == 0;
+    }
+    if (any_zero || sum > 127 || multiplicities == Bytes(n, 1)) refuse(21, reader.place());
+    return multiplicities;
+}
+
 Column read_column(RecordReader& reader, unsigned n) {
     reader.open(Kind::column);
     Column column{};
@@ -28,15 +43,28 @@ Column read_column(RecordReader& reader, unsigned n) {
 
 }  // namespace
 
+std::uint64_t mass(const Matrix& matrix, TaxonSet set) {
+    if (matrix.multiplicities.empty()) return size(set);
+    std::uint64_t sum = 0;
+    for (; set != 0; set &= set - 1) sum += matrix.multiplicities[__builtin_ctzll(set)];
+    return sum;
+}
+
 Matrix read_matrix(const Bytes& file) {
     RecordReader reader(file);
     Matrix matrix;
     unsigned m = 0;
     matrix.n = read_head(reader, m);
+    if (reader.next_is(Kind::multiplicities)) matrix.multiplicities = read_multiplicities(reader, matrix.n);
     for (unsigned c = 0; c < m; ++c) matrix.columns.push_back(read_column(reader, matrix.n));
     reader.open(Kind::matrix_end);
     reader.finish();
     return matrix;
+}
+
+bool names_multiplicities(const Bytes& file) {
+    const std::size_t kind = record_length(Kind::matrix_head) + 2;
+    return file.size() >= kind + 2 && file[kind] == 5 && file[kind + 1] == 0;
 }
 
 CheckOutcome check(const Bytes& file) {
@@ -54,6 +82,9 @@ CheckOutcome check(const Bytes& file) {
 Bytes matrix_file(const Matrix& matrix) {
     Bytes file;
     put_record(file, Kind::matrix_head, {{2, matrix.n}, {2, matrix.columns.size()}});
+    std::vector<Field> multiplicities;
+    for (std::uint8_t multiplicity : matrix.multiplicities) multiplicities.push_back({1, multiplicity});
+    if (!multiplicities.empty()) put_record(file, Kind::multiplicities, multiplicities);
     for (const Column& column : matrix.columns)
         put_record(file, Kind::column, {{2, column.weight}, {8, column.ones}, {8, column.zeros}});
     put_record(file, Kind::matrix_end, {});

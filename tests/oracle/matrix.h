@@ -18,11 +18,18 @@ struct Column {
 
 struct Matrix {
     unsigned n = 0;
+    Bytes multiplicities;  // empty where the file has no such record (document 02's C-14): each is 1
     std::vector<Column> columns;
 };
 
-// Reads a matrix file; throws the Refusal that document 01 names (1 to 8).
+// How many specimens these taxa stand for: the sum of their multiplicities.
+std::uint64_t mass(const Matrix& matrix, TaxonSet set);
+
+// Reads a matrix file; throws the Refusal that document 01 (1 to 8) or document 02's C-14 (21) names.
 Matrix read_matrix(const Bytes& file);
+
+// Whether the record after the head is of the kind that holds multiplicities, whatever the rest of the file is.
+bool names_multiplicities(const Bytes& file);
 
 struct CheckOutcome {
     Refusal refusal;

@@ -1,5 +1,7 @@
 #include "records.h"
 
+#include <stdexcept>
+
 namespace oracle {
 
 namespace {
@@ -21,24 +23,27 @@ std::size_t payload_length(Kind kind) {
         case Kind::matrix_head: return 4;
         case Kind::column: return 18;
         case Kind::matrix_end: return 0;
+        case Kind::multiplicities: break;
         case Kind::answer_head: return 12;
         case Kind::group: return 12;
         case Kind::flips: return 18;
         case Kind::answer_end: return 0;
     }
-    return 0;
+    throw std::logic_error("a record of no length in particular");
+}
+
+bool RecordReader::next_is(Kind kind) const {
+    return file_.size() - next_ >= frame_length && number_at(file_, next_ + 2, 2) == static_cast<std::uint64_t>(kind);
 }
 
 // "Within a record: fewer than 4 bytes left (1), kind or length (2), payload short (1)."
-void RecordReader::open(Kind kind) {
+void RecordReader::open(Kind kind, std::size_t length) {
     start_ = next_;
     if (file_.size() - start_ < frame_length) refuse(1, start_);
-    const std::uint64_t length = number_at(file_, start_, 2);
-    const std::uint64_t found = number_at(file_, start_ + 2, 2);
-    if (found != static_cast<std::uint64_t>(kind) || length != payload_length(kind)) refuse(2, start_);
-    if (file_.size() - start_ < record_length(kind)) refuse(1, start_);
+    if (!next_is(kind) || number_at(file_, start_, 2) != length) refuse(2, start_);
+    if (file_.size() - start_ < frame_length + length) refuse(1, start_);
     payload_ = start_ + frame_length;
-    next_ = start_ + record_length(kind);
+    next_ = payload_ + length;
 }
 
 std::uint64_t RecordReader::take(std::size_t width) {
@@ -51,8 +56,10 @@ void RecordReader::finish() const {
     if (next_ < file_.size()) refuse(8, next_);
 }
 
-void put_record(Bytes& file, Kind kind, std::initializer_list<Field> payload) {
-    put_number(file, 2, payload_length(kind));
+void put_record(Bytes& file, Kind kind, const std::vector<Field>& payload) {
+    std::size_t length = 0;
+    for (const Field& field : payload) length += field.width;
+    put_number(file, 2, length);
     put_number(file, 2, static_cast<std::uint64_t>(kind));
     for (const Field& field : payload) put_number(file, field.width, field.value);
 }

@@ -3,7 +3,6 @@
 
 #include <cstddef>
 #include <cstdint>
-#include <initializer_list>
 #include <vector>
 
 #include "refusal.h"
@@ -16,6 +15,7 @@ enum class Kind : std::uint16_t {
     matrix_head = 1,
     column = 2,
     matrix_end = 3,
+    multiplicities = 5,
     answer_head = 17,
     group = 18,
     flips = 19,
@@ -24,6 +24,7 @@ enum class Kind : std::uint16_t {
 
 constexpr std::size_t frame_length = 4;
 
+// For every kind but the multiplicities, whose length is the number of taxa.
 std::size_t payload_length(Kind kind);
 
 // Frame and payload together.
@@ -34,8 +35,11 @@ class RecordReader {
 public:
     explicit RecordReader(const Bytes& file) : file_(file) {}
 
-    // The next record has to be of this kind: refusals 1, 2 and 1, in this order.
-    void open(Kind kind);
+    // Whether the next record has a whole frame that names this kind; nothing is refused.
+    bool next_is(Kind kind) const;
+    // The next record has to be of this kind and length: refusals 1, 2 and 1, in this order.
+    void open(Kind kind, std::size_t length);
+    void open(Kind kind) { open(kind, payload_length(kind)); }
     // The next number of the open record's payload.
     std::uint64_t take(std::size_t width);
     // Where the open record starts.
@@ -55,7 +59,7 @@ struct Field {
     std::uint64_t value;
 };
 
-// Adds a record at the end of a file.
-void put_record(Bytes& file, Kind kind, std::initializer_list<Field> payload);
+// Adds a record at the end of a file. Its length is that of the payload.
+void put_record(Bytes& file, Kind kind, const std::vector<Field>& payload);
 
 }  // namespace oracle

@@ -14,8 +14,8 @@ std::vector<TaxonSet> nodes_of(const AnswerValue& value) {
     return nodes;
 }
 
-Flips flips_to(const Column& column, TaxonSet cluster) {
-    return {column.weight * size(column.zeros & cluster), column.weight * size(column.ones & ~cluster)};
+Flips flips_to(const Matrix& matrix, const Column& column, TaxonSet cluster) {
+    return {column.weight * mass(matrix, column.zeros & cluster), column.weight * mass(matrix, column.ones & ~cluster)};
 }
 
 // The least distance counts; among equal ones the one with fewest raises.
@@ -26,9 +26,9 @@ bool counts_before(const Flips& x, const Flips& y) {
 
 }  // namespace
 
-Flips nearest_flips(const Column& column, const AnswerValue& tree) {
+Flips nearest_flips(const Matrix& matrix, const Column& column, const AnswerValue& tree) {
     std::vector<Flips> all;
-    for (TaxonSet node : nodes_of(tree)) all.push_back(flips_to(column, node));
+    for (TaxonSet node : nodes_of(tree)) all.push_back(flips_to(matrix, column, node));
     return *std::min_element(all.begin(), all.end(), counts_before);
 }
 
@@ -40,7 +40,7 @@ ScoreOutcome score(const Bytes& matrix_file, const Bytes& answer_file) {
         if (matrix.n != tree.n || matrix.columns.size() != tree.m) refuse(15, 0);
         for (const Column& column : matrix.columns) {
             if (column.ones == 0) continue;
-            const Flips flips = nearest_flips(column, tree);
+            const Flips flips = nearest_flips(matrix, column, tree);
             outcome.raises += flips.raises;
             outcome.lowers += flips.lowers;
         }

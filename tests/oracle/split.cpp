@@ -7,14 +7,15 @@ namespace oracle {
 namespace {
 
 // What a division flips in one participating column; empty sets where a or b is 0.
-Flip flip_of(const Column& column, TaxonSet group, TaxonSet side) {
+Flip flip_of(const Matrix& matrix, const Column& column, TaxonSet group, TaxonSet side) {
     const TaxonSet ones_in_a = column.ones & side;
     const TaxonSet ones_in_b = column.ones & group & ~side;
     const TaxonSet zeros = column.zeros & group;
     Flip flip;
     if (ones_in_a == 0 || ones_in_b == 0) return flip;
-    if (size(zeros) <= std::min(size(ones_in_a), size(ones_in_b))) flip.raised = zeros;
-    else if (size(ones_in_a) <= size(ones_in_b)) flip.lowered = ones_in_a;
+    const std::uint64_t a = mass(matrix, ones_in_a), b = mass(matrix, ones_in_b), z = mass(matrix, zeros);
+    if (z <= std::min(a, b)) flip.raised = zeros;
+    else if (a <= b) flip.lowered = ones_in_a;
     else flip.lowered = ones_in_b;
     return flip;
 }
@@ -38,16 +39,17 @@ void join(std::vector<TaxonSet>& parts, TaxonSet taxa) {
 
 }  // namespace
 
-GroupSplit split_group(std::vector<Column>& columns, TaxonSet group) {
-    const Division division = least_division(columns, group);
+GroupSplit split_group(Matrix& matrix, TaxonSet group) {
+    const Division division = least_division(matrix, group);
     GroupSplit split;
     split.cost = division.cost;
     for (unsigned taxon : members(group)) split.parts.push_back(only(taxon));
-    for (std::size_t c = 0; c < columns.size(); ++c) {
-        if (!participates(columns[c], group)) continue;
-        Flip flip = flip_of(columns[c], group, division.side);
-        apply(flip, columns[c]);
-        if (flip.raised == 0) join(split.parts, columns[c].ones & group);  // a raised column is dropped
+    for (std::size_t c = 0; c < matrix.columns.size(); ++c) {
+        Column& column = matrix.columns[c];
+        if (!participates(column, group)) continue;
+        Flip flip = flip_of(matrix, column, group, division.side);
+        apply(flip, column);
+        if (flip.raised == 0) join(split.parts, column.ones & group);  // a raised column is dropped
         flip.column = c;
         if ((flip.raised | flip.lowered) != 0) split.flips.push_back(flip);
     }
@@ -63,7 +65,7 @@ SplitOutcome split(const Bytes& file, TaxonSet group, std::size_t workspace) {
         const Matrix matrix = read_matrix(file);
         if (size(group) < 2 || !within(group, all_taxa(matrix.n))) refuse(11, 0);
         if (workspace < matrix.n * matrix.columns.size()) refuse(9, 0);
-        outcome.division = least_division(matrix.columns, group);
+        outcome.division = least_division(matrix, group);
     } catch (const Refusal& refusal) {
         outcome.refusal = refusal;
     }

@@ -1,24 +1,17 @@
 -- The columns of a file that is taken, as the method has them (`file-column`), and that a loop over them loads them (`all-loaded`).
 use mathlib.Core.Path.{_≡_, sym, ap, _∙_, fun-ext}
 use mathlib.Core.List.{List}
-use Prim.Native.Nat.{ℕ, zero, suc, _+_, _*_, _≤_, _<_}
+use Prim.Native.Nat.{ℕ, _+_, _≤_, _<_}
 use native.Mathlib.Omega.{arith}
 use lib.ListN.{length, getD, set, length-map, List·getD-map, List·getD-eq-default}
-use Rattle.record.specs.Bytes.{numberAt}
 use Rattle.matrix.specs.declared.Column as matrix
-use Rattle.matrix.specs.Matrix.{columnsAt, columnAt, columnIn, columnsFrom, matrixOf}
+use Rattle.matrix.specs.Matrix.{columnIn, matrixOf}
+use Rattle.matrix.proofs.Taken.{column-of}
 use Rattle.method.specs.Split.{Column}
 use Rattle.method.specs.Tree.{column}
 use Rattle.search.specs.Search.{colsOf}
 use Rattle.split.specs.Columns.{columnOf, Parallel, matrixIn}
 use Rattle.split.proofs.Filling.{Filled, fill-one, fill-all}
-
--- Column c of m whose records start at a place.
-column-from : (file : List ℕ) (m at c : ℕ) (d : matrix.Column) → c < length (columnsFrom file m at) → getD (columnsFrom file m at) c d ≡ columnAt file (at + 4 + 22 * c)
-unfolding columnsFrom
-column-from file zero at c d b = absurd (omega arith)
-column-from file (suc m) at zero d b = ap (columnAt file) (omega arith)
-column-from file (suc m) at (suc c) d b = column-from file m (at + 22) c d (omega arith) ∙ ap (columnAt file) (omega arith)
 
 abbrev pub blank : matrix.Column
 blank = record { weight = 0; ones = 0; zeros = 0 }
@@ -32,10 +25,10 @@ module _ (file : List ℕ) where
   columnCount = length (matrixIn file .columns)
 
   pub file-column : {c : ℕ} → c < columnCount → fileColumns c ≡ columnOf (columnIn file c)
-  unfolding column matrixOf
+  unfolding column
   file-column {c} b =
-      let from : List matrix.Column = columnsFrom file (numberAt 2 file 6) (columnsAt file) in
-      List·getD-map columnOf from c blank ∙ ap columnOf (column-from file (numberAt 2 file 6) (columnsAt file) c blank (omega (arith, length-map from columnOf)))
+      let from = matrixOf file .columns in
+      List·getD-map columnOf from c blank ∙ ap columnOf (column-of file c blank (omega (arith, length-map from columnOf)))
 
   pub no-column : {c : ℕ} → columnCount ≤ c → fileColumns c ≡ columnOf blank
   unfolding column

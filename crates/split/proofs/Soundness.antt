@@ -1,17 +1,19 @@
 -- The matrix in a file that the check takes is sound, as all theorems of the method ask (`taken-sound`), and its taxa and columns are counted by n and m.
-use mathlib.Core.Path.{_≡_, sym, _∙_}
+use mathlib.Core.Path.{_≡_, sym, subst, _∙_}
 use mathlib.Core.List.{List}
 use Prim.Native.Nat.{ℕ, zero, suc, _+_, _*_, _≤_, _<_}
 use native.Mathlib.Nat.{mul-le-mul}
 use native.Mathlib.Omega.{arith}
 use lib.ListN.{length, getD, length-map, List·getD-map}
+use Rattle.taxa.specs.Sets.{Positive, multiplicity, multiplicityIn}
 use Rattle.taxa.proofs.Members.{∩-disjoint}
 use Rattle.record.specs.Bytes.{File}
 use Rattle.matrix.specs.declared.Column as matrix
 use Rattle.matrix.specs.declared.Checked.the-variants.{Taken}
 use Rattle.matrix.specs.Check.{checked}
-use Rattle.matrix.specs.Matrix.{columnsAt, LegalColumn, LegalColumns, none, one, matrixOf}
+use Rattle.matrix.specs.Matrix.{multiplicitiesIn, columnsAt, LegalColumn, LegalColumns, none, one, matrixOf}
 use Rattle.matrix.proofs.Taken.{taken-length, taken-taxa, taken-columns, taken-legal}
+use Rattle.matrix.proofs.Multiplying.{legal-positive, legal-merged}
 use Rattle.method.specs.Tree.{Sound, column}
 use Rattle.split.specs.Columns.{columnOf, matrixIn}
 use Rattle.split.proofs.Loading.{blank}
@@ -42,6 +44,15 @@ module _ {file : List ℕ} (f : File file) {n m : ℕ} (taken : Taken n m ≡ ch
   -- Lists of m places take the file's columns.
   pub can-load : {k : ℕ} → k ≡ m → (k ≡ length (matrixIn file .columns)) × (columnsAt file + 22 * k ≤ length file)
   can-load long = (long ∙ sym taken-count, omega (arith, taken-length f taken))
+
+  -- Planes that were read off the file hold its multiplicities, of which none is 0.
+  module _ (P : List ℕ) (are : multiplicityIn P ≡ multiplicity (multiplicitiesIn file)) where
+    pub read-multiplicities : multiplicityIn P ≡ multiplicity (matrixIn file .multiplicities)
+    unfolding matrixOf
+    read-multiplicities = are
+
+    pub read-positive : Positive (multiplicityIn P)
+    read-positive = subst Positive (sym read-multiplicities) (legal-positive (taken-legal f taken))
 
   -- What the check has seen of a column.
   taken-column : {c : ℕ} → c < length (matrixIn file .columns) → (it : matrix.Column) × (column (matrixIn file .columns) c ≡ columnOf it) × LegalColumn (matrixIn file .taxa) it

@@ -70,7 +70,7 @@ module _ {ws P os zs os′ zs′ : List ℕ} {S n : ℕ} {space : List ℤ} {lis
       → next ≡ at + 1 → space′ ≡ space → mid ≡ before ++ (record { taxa = S; cost = cost } ∷ [])
       → Grown ws os″ zs″ space′ space″ (walked (build 64 μ (length ws)) (colsOf ws os′ zs′) Ps) mid new next end
       → Grown ws os″ zs″ space space″ (build 64 μ (length ws) cols S) before new at end
-  grown-group Ps e one same groups w = whole-group cols (colsOf ws os′ zs′) Ps (ready-wide r) two (h .columns) e (rw (groups, same, one, h .is-cost) at w)
+  grown-group Ps e one same groups w = whole-group μ cols (colsOf ws os′ zs′) Ps (ready-wide r) two (h .columns) e (rw (groups, same, one, h .is-cost) at w)
 
 -- Room for a group and all below it is room for the group.
 pub first-room : (at : ℕ) {ws P os zs : List ℕ} {S n : ℕ} {space : List ℤ} {taxa costs : List ℕ} → Ready ws P os zs S n space → 1 < count 64 S

@@ -69,19 +69,19 @@ module _ (g : (ℕ → Column) → ℕ → Walk) (Ps : List ℕ) where
 -- ---- a group
 
 -- A set of one taxon, or of none, is no group.
-pub one-taxon : {ws os zs : List ℕ} {μ : ℕ → ℕ} {space : List ℤ} {before : List Group} {at S : ℕ} → Parallel ws os zs → S < 2 ^ 64 → count 64 S ≤ 1
+pub one-taxon : (μ : ℕ → ℕ) {ws os zs : List ℕ} {space : List ℤ} {before : List Group} {at S : ℕ} → Parallel ws os zs → S < 2 ^ 64 → count 64 S ≤ 1
     → Grown ws os zs space space (build 64 μ (length ws) (colsOf ws os zs) S) before before at at
-one-taxon {ws} {os} {zs} {μ} {before = before} p fits few =
+one-taxon μ {ws} {os} {zs} {before = before} p fits few =
     rw (build-leaf 64 μ (length ws) (colsOf ws os zs) fits few)
     (record { columns = refl; parallel = p; groups = sym (append-nil before); many = omega arith; workspace = refl })
 
 -- The group, and what the walk over its parts came to.
-pub whole-group : {ws os zs : List ℕ} {μ : ℕ → ℕ} {space space′ : List ℤ} {before new : List Group} {at end S : ℕ} (cols mid : ℕ → Column) (Ps : List ℕ)
+pub whole-group : (μ : ℕ → ℕ) {ws os zs : List ℕ} {space space′ : List ℤ} {before new : List Group} {at end S : ℕ} (cols mid : ℕ → Column) (Ps : List ℕ)
     → S < 2 ^ 64 → 1 < count 64 S → mid ≡ after 64 μ (length ws) cols S → Ps ≡ splitParts 64 μ (length ws) cols S
     → Grown ws os zs space space′ (walked (build 64 μ (length ws)) mid Ps) (before ++ (record { taxa = S; cost = splitCost 64 μ (length ws) cols S } ∷ [])) new (at + 1) end
     → Grown ws os zs space space′ (build 64 μ (length ws) cols S) before new at end
 unfolding node
-whole-group {ws} {μ = μ} {before = before} {S = S} cols mid Ps fits two e ps w =
+whole-group μ {ws} {before = before} {S = S} cols mid Ps fits two e ps w =
     rw (build-node 64 μ (length ws) cols fits two)
     (record {
       columns = rw (e, ps) at (w .columns);

@@ -7,11 +7,13 @@ use Prim.Native.Nat.{ℕ, _≤_}
 use lib.ListN.{length, take, drop, replicate}
 use lib.Seq.{length-take-le}
 use Rattle.record.specs.Bytes.{File}
+use Rattle.taxa.specs.Sets.{multiplicity, multiplicityIn}
+use Rattle.matrix.proofs.Taken.{taken-multiplied}
 use Rattle.method.specs.Tree.{column}
 use Rattle.search.specs.Search.{colsOf}
 use Rattle.split.specs.Columns.{matrixIn}
 use Rattle.tree.specs.Grow.{entriesFor}
-use Rattle.split.proofs.Soundness.{can-load, few-columns, few-pairs}
+use Rattle.split.proofs.Soundness.{can-load, few-columns, few-pairs, read-multiplicities}
 use Rattle.tree.proofs.Building.{front-fits, still-long, lent-columns, lent-ready, lent-room, to-write, built-content, answers-all}
 use Rattle.tree.proofs.build_loaded.Statement.{statement}
 use Rattle.tree.proofs.build_loaded.Tie as tie
@@ -21,14 +23,17 @@ use Rattle.tree.proofs.build_loaded.Tie as tie
 abbrev begun : tie.After-slice-known → tie.Start
 begun c = c .before .before
 
+abbrev read : tie.After-load → tie.After-planes-in
+read c = c .before .before .before .before
+
 abbrev empty : tie.After-load → tie.After-slice-known
-empty c = c .before .before .before .before
+empty c = read c .before
 
 abbrev loaded : tie.After-clear → tie.After-load
 loaded c = c .before .before .before .before .before
 
 abbrev cleared : tie.After-grow-all → tie.After-clear
-cleared c = c .before .before .before .before .before .before .before .before
+cleared c = c .before .before .before .before .before .before .before .before .before
 
 abbrev grown : tie.After-write-answer → tie.After-grow-all
 grown c = c .before .before .before .before .before .before .before
@@ -44,10 +49,17 @@ m-fits c = few-columns (bytes c) (begun c .pre .taken)
 
 load-requires : tie.Need-load-requires
 load-requires c κs =
-    let at = c .before .before .before in
+    let at = c .before .before .before .before in
     let long = length-take-le _ _ (m-fits at) in
     let fits = can-load (bytes at) (begun at .pre .taken) long in
     (record { ones = length-take-le _ _ (m-fits at) ∙ sym long; zeros = length-take-le _ _ (m-fits at) ∙ sym long }, fits .0, fits .1)
+
+-- What the planes hold are the file's multiplicities.
+abbrev planes : tie.After-load → List ℕ
+planes c = read c .planes-in .result
+
+multiplicities : (c : tie.After-load) → multiplicityIn (planes c) ≡ multiplicity (matrixIn (begun (empty c) .args .file .now) .multiplicities)
+multiplicities c = read-multiplicities (bytes (empty c)) (begun (empty c) .pre .taken) (planes c) (read c .planes-in .ensures)
 
 -- What was loaded.
 loaded-all : (c : tie.After-load) → length (c .load .last .1 .0) ≡ begun (empty c) .args .m
@@ -55,14 +67,14 @@ loaded-all c = c .load .ensures .2 ∙ length-take-le _ _ (m-fits (empty c))
 
 grow-all-requires : tie.Need-grow-all-requires
 grow-all-requires c κs =
-    let clear = c .before .before .before .before .before .before .before in
+    let clear = c .before .before .before .before .before .before .before .before in
     let load = loaded clear in
     let f = bytes (empty load) in
     let b = begun (empty load) .pre in
     let l = load .load in
     let sized = loaded-all load in (
       (
-        lent-ready f b (l .last .1 .0) (l .last .1 .1 .0) (l .last .1 .1 .1 .0) _ _ _ (l .ensures .1) sized _ (clear .clear .ensures) (clear .clear .kept .0),
+        lent-ready f b (l .last .1 .0) (planes load) (l .last .1 .1 .0) (l .last .1 .1 .1 .0) _ _ _ (l .ensures .1) sized (multiplicities load) _ (clear .clear .ensures) (clear .clear .kept .0),
         record {
           ones = still-long (l .last .1 .1 .0) _ (l .ensures .1 .ones ∙ sized) (m-fits (empty load));
           zeros = still-long (l .last .1 .1 .1 .0) _ (l .ensures .1 .zeros ∙ sized) (m-fits (empty load));
@@ -70,7 +82,7 @@ grow-all-requires c κs =
           paid = refl;
         },
       ),
-      lent-room f b (l .last .1 .0) (l .last .1 .1 .0) (l .last .1 .1 .1 .0) _ _ _ (l .ensures .1) sized refl refl,
+      lent-room f b (l .last .1 .0) (planes load) (l .last .1 .1 .0) (l .last .1 .1 .1 .0) _ _ _ (l .ensures .1) sized refl refl,
     )
 
 -- ---- what comes back
@@ -91,7 +103,7 @@ zeros c = c .load .last .1 .1 .1 .0 ++ others c
 columns : (c : tie.After-load) → colsOf (weights c) (entriesFor (weights c) (ones c)) (entriesFor (weights c) (zeros c)) ≡ column (matrixIn (begun (empty c) .args .file .now) .columns)
 columns c =
     let l = c .load in
-    lent-columns (bytes (empty c)) (begun (empty c) .pre) (l .last .1 .0) (l .last .1 .1 .0) (l .last .1 .1 .1 .0) _ _ _ (l .ensures .1) (loaded-all c) (l .ensures .0)
+    lent-columns (bytes (empty c)) (begun (empty c) .pre) (l .last .1 .0) (planes c) (l .last .1 .1 .0) (l .last .1 .1 .1 .0) _ _ _ (l .ensures .1) (loaded-all c) (l .ensures .0)
 
 sized : (c : tie.After-load) → length (weights c) ≡ begun (empty c) .args .m
 sized c = length-take-le _ _ (front-fits (c .load .last .1 .0) _ (loaded-all c))
@@ -102,7 +114,7 @@ write-answer-requires c κs =
     let load = loaded (cleared walk) in
     let at = empty load in
     let now = walk .grow-all .last in
-    to-write (bytes at) (begun at .pre) (weights load) (ones load) (zeros load) (now .1 .0) (now .1 .1 .0) _ _ _ _ _ (columns load) (sized load) (walk .grow-all .ensures .0) (walk .grow-all .ensures .1)
+    to-write (bytes at) (begun at .pre) (weights load) (planes load) (ones load) (zeros load) (now .1 .1 .0) (now .1 .1 .1 .0) _ _ _ _ _ (multiplicities load) (columns load) (sized load) (walk .grow-all .ensures .0) (walk .grow-all .ensures .1)
 
 returns : tie.Need-returns
 returns c =
@@ -111,7 +123,7 @@ returns c =
     let load = loaded (cleared walk) in
     let at = empty load in
     let now = walk .grow-all .last in
-    let content = built-content (bytes at) (begun at .pre) (weights load) (ones load) (zeros load) (now .1 .0) (now .1 .1 .0) _ _ _ _ _ (columns load) (sized load) (walk .grow-all .ensures .0) in
+    let content = built-content (bytes at) (begun at .pre) (weights load) (planes load) (ones load) (zeros load) (now .1 .1 .0) (now .1 .1 .1 .0) _ _ _ _ _ (multiplicities load) (columns load) (sized load) (walk .grow-all .ensures .0) in
     let (taken, output) = answers-all (bytes at) (begun at .pre) content refl (written .write-answer .ensures) in
     (taken, output, walk .grow-all .ensures .0 .workspace ∙ cleared walk .clear .ensures)
 
@@ -119,12 +131,13 @@ pub build-loaded-spec : {M : Type 1} → statement M
 build-loaded-spec =
     tie.close
     (tie.spec
-    m-fits
-    (λ c. sym (length-take-le _ _ (m-fits (c .before))))
+    (λ c κs. taken-multiplied (bytes c) (begun c .pre .taken))
     (λ c. m-fits (c .before))
     (λ c. sym (length-take-le _ _ (m-fits (c .before .before))))
     (λ c. m-fits (c .before .before))
     (λ c. sym (length-take-le _ _ (m-fits (c .before .before .before))))
+    (λ c. m-fits (c .before .before .before))
+    (λ c. sym (length-take-le _ _ (m-fits (c .before .before .before .before))))
     load-requires
     (λ c. let at = empty (c .before .before .before .before) in omega (arith, few-pairs (bytes at) (begun at .pre .taken)))
     (λ c κs. search needs)

@@ -94,7 +94,7 @@ module _ (t : ℕ) where
   grow-returns : grow-lts.Need-returns grow-calls grow-at grow.Post
   grow-returns c =
       let p = c .before .before .before .before .pre .1 .0 in
-      (one-taxon (p .0 .parallel) (ready-wide (p .0)) (omega (arith, c .before .size .ensures)), p .2, p .3)
+      (one-taxon (multiplicityIn (c .before .before .before .before .args .planes .now)) (p .0 .parallel) (ready-wide (p .0)) (omega (arith, c .before .size .ensures)), p .2, p .3)
 
   grow-split-first-requires : grow-lts.Need-split-first-requires grow-calls grow-at grow.Post
   grow-split-first-requires c κs =
@@ -126,11 +126,12 @@ module _ (t : ℕ) where
       let kept = split .split-first .kept in
       let two = more test in
       let ps = listed-parts ready two (handed .0) in
-      let fits = listed-fits ready two (handed .0) (search needs) in (
+      let long = kept .1 .1 .1 .1 .1 .1 .1 .0 in
+      let fits = listed-fits ready two (handed .0) long in (
         omega (arith, p .0),
         (
           (
-            rw (test .before .size .ensures) (parts-ready ready two (handed .0) _ ps (omega (arith, p .1 .0 .1, fits))),
+            rw (test .before .size .ensures) (parts-ready ready two (handed .0) _ ps (omega (arith, p .1 .0 .1, fits, long))),
             fits,
             omega arith,
             record { ones = kept .1 .1 .0 ∙ held .ones; zeros = kept .1 .1 .1 .0 ∙ held .zeros; walked = put .kept .1 .0 ∙ held .walked; paid = put .kept .1 .1 .0 ∙ held .paid },
