@@ -7,5 +7,6 @@ pub mod OneAnswer
 pub mod Entries
 pub mod Tree
 pub mod Score
+pub mod Unmerged
 pub mod Specimens
 pub mod PassingOn

@@ -29,7 +29,7 @@ use Rattle.split.proofs.Soundness.{taken-count, taken-sound}
 use Rattle.score.specs.declared.Scored.{Scored}
 use Rattle.score.specs.declared.Scored.the-variants as scores
 use Rattle.score.specs.Score.{ColumnScore, Counts, literalScore, columnScore, raisesOf, lowersOf}
-use Rattle.score.specs.Operation.{NodeIn, nodeIn, raisesIn, lowersIn, agreed, afterAnswer, afterMatrix, scored, returned, Scores}
+use Rattle.score.specs.Operation.{NodeIn, nodeIn, standFor, raisesIn, lowersIn, agreed, afterAnswer, afterMatrix, scored, returned, Scores}
 use Rattle.score.proofs.Nearest.{node-counts}
 use Rattle.score.proofs.Columns.{same-score, raises-before, lowers-before}
 use Rattle.promises.proofs.Numbers.{score-succeeds}
@@ -66,15 +66,19 @@ module _ (matrix answer : List ℕ) (raises lowers : ℕ) where
   agree = checked-first (checked matrix) refl
 
 module _ {matrix answer : List ℕ} (f : File matrix) {r : Scored} (x : Scores matrix answer r) (none : returned r .number ≡ 0) where
+  -- How many specimens each taxon of the matrix stands for.
+  abbrev μ : ℕ → ℕ
+  μ = standFor matrix
+
   it : Agree matrix answer r
   it = let (raises, lowers, e) = score-succeeds x .0 none in rw e (agree matrix answer raises lowers (rw e at (x .answers)))
 
   -- "The column's score is the least over all nodes; among equal ones the node with fewest raises counts": there is such a node, for any column.
-  pub column-node : (j : ℕ) → Counts (columnIn matrix j) (NodeIn answer) (nodeIn answer (columnIn matrix j))
+  pub column-node : (j : ℕ) → Counts μ (columnIn matrix j) (NodeIn answer) (nodeIn μ answer (columnIn matrix j))
   column-node j =
       let a = contentIn answer in
       let some : 0 < a .n = omega (arith, it .same-n, taken-taxa f (it .taken), taken-legal f (it .taken) .some-taxa) in
-      node-counts (columnIn matrix j) some (a .taxa) (a .groups)
+      node-counts μ (columnIn matrix j) some (a .taxa) (a .groups)
 
   -- A column of the file weighs something.
   weighs : {j : ℕ} → j < it .m → 0 < columnIn matrix j .weight
@@ -90,17 +94,17 @@ module _ {matrix answer : List ℕ} (f : File matrix) {r : Scored} (x : Scores m
   many = taken-columns f (it .taken)
 
   -- At other nodes that count for the columns with a 1, every column's score is the same.
-  module _ (node : ℕ → ℕ) (counts : (j : ℕ) → j < all-columns → (columnIn matrix j .ones ≡ 0 → ⊥) → Counts (columnIn matrix j) (NodeIn answer) (node j)) where
-    same : {j : ℕ} → j < it .m → columnScore (columnIn matrix j) (nodeIn answer (columnIn matrix j)) ≡ columnScore (columnIn matrix j) (node j)
-    same {j} l = same-score (columnIn matrix j) (weighs l) (λ some. (column-node j, counts j (omega (arith, many)) some))
+  module _ (node : ℕ → ℕ) (counts : (j : ℕ) → j < all-columns → (columnIn matrix j .ones ≡ 0 → ⊥) → Counts μ (columnIn matrix j) (NodeIn answer) (node j)) where
+    same : {j : ℕ} → j < it .m → columnScore μ (columnIn matrix j) (nodeIn μ answer (columnIn matrix j)) ≡ columnScore μ (columnIn matrix j) (node j)
+    same {j} l = same-score μ (columnIn matrix j) (weighs l) (λ some. (column-node j, counts j (omega (arith, many)) some))
 
-    summed : (direction : ColumnScore → ℕ) → sum (it .m) (λ j. direction (columnScore (columnIn matrix j) (nodeIn answer (columnIn matrix j))))
-        ≡ sum all-columns (λ j. direction (columnScore (columnIn matrix j) (node j)))
-    summed direction = sum-≡ (it .m) (λ j l. ap direction (same l)) ∙ ap (λ (k : ℕ). sum k (λ j. direction (columnScore (columnIn matrix j) (node j)))) (sym many)
+    summed : (direction : ColumnScore → ℕ) → sum (it .m) (λ j. direction (columnScore μ (columnIn matrix j) (nodeIn μ answer (columnIn matrix j))))
+        ≡ sum all-columns (λ j. direction (columnScore μ (columnIn matrix j) (node j)))
+    summed direction = sum-≡ (it .m) (λ j l. ap direction (same l)) ∙ ap (λ (k : ℕ). sum k (λ j. direction (columnScore μ (columnIn matrix j) (node j)))) (sym many)
 
     -- "Raises and lowers, each times its weight": the sums over the columns, each with a 1 at a node that counts for it.
-    pub score-is : (returned r .raises ≡ sum all-columns (λ j. columnScore (columnIn matrix j) (node j) .raises))
-        × (returned r .lowers ≡ sum all-columns (λ j. columnScore (columnIn matrix j) (node j) .lowers))
+    pub score-is : (returned r .raises ≡ sum all-columns (λ j. columnScore μ (columnIn matrix j) (node j) .raises))
+        × (returned r .lowers ≡ sum all-columns (λ j. columnScore μ (columnIn matrix j) (node j) .lowers))
     unfolding raisesOf lowersOf
     score-is = (
       ap (λ (s : Scored). returned s .raises) (it .is) ∙ summed (λ s. s .raises),
@@ -109,7 +113,7 @@ module _ {matrix answer : List ℕ} (f : File matrix) {r : Scored} (x : Scores m
 
     -- "No other column's score may change" (document 02, C-12): by the score as it was before, the lowers are those returned, and the raises those
     -- returned and what columns without a 1 were charged.
-    pub score-before : (sum all-columns (λ j. literalScore (columnIn matrix j) (node j) .raises)
-        ≡ returned r .raises + sum all-columns (inside (λ j. eqb (columnIn matrix j .ones) 0) (λ j. literalScore (columnIn matrix j) (node j) .raises)))
-        × (sum all-columns (λ j. literalScore (columnIn matrix j) (node j) .lowers) ≡ returned r .lowers)
-    score-before = (rw (score-is .0) (raises-before (columnIn matrix) node all-columns), rw (score-is .1) (lowers-before (columnIn matrix) node all-columns))
+    pub score-before : (sum all-columns (λ j. literalScore μ (columnIn matrix j) (node j) .raises)
+        ≡ returned r .raises + sum all-columns (inside (λ j. eqb (columnIn matrix j .ones) 0) (λ j. literalScore μ (columnIn matrix j) (node j) .raises)))
+        × (sum all-columns (λ j. literalScore μ (columnIn matrix j) (node j) .lowers) ≡ returned r .lowers)
+    score-before = (rw (score-is .0) (raises-before μ (columnIn matrix) node all-columns), rw (score-is .1) (lowers-before μ (columnIn matrix) node all-columns))
