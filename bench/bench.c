@@ -7,7 +7,7 @@ static Split plain_search(uint64_t group) { return plain(weights, ones, zeros, g
 
 #ifdef RATTLE
 // Writes cost, side and t to out; each slice is a pointer and a length. The planes are those of multiplicities that are all 1.
-static const uint64_t planes[8];
+static const uint64_t planes[72] = {[8 ... 71] = 1};
 extern void search_group(const uint16_t *w, uint64_t, const uint64_t *planes, const uint64_t *ones, uint64_t, const uint64_t *zeros, uint64_t, uint64_t group, uint64_t n, uint64_t m, int32_t *ws, uint64_t, uint64_t *out, uint64_t);
 
 static Split search(uint64_t group) {

@@ -25,7 +25,7 @@ fn put(out: &mut [u64], at: usize, x: u64)
 }
 
 #[no_mangle]
-pub extern "C" fn search_group(weights: &[u16], planes: &[u64; 8], ones: &[u64], zeros: &[u64], group: u64, n: usize, m: usize, ws: &mut [i32], out: &mut [u64])
+pub extern "C" fn search_group(weights: &[u16], planes: &[u64; 72], ones: &[u64], zeros: &[u64], group: u64, n: usize, m: usize, ws: &mut [i32], out: &mut [u64])
     requires { ⌜ Given (now weights) (now planes) (now ones) (now zeros) group n m × (n * m ≤ length (now ws)) × (3 ≤ length (now out)) ⌝ }
 {
     let mut joined = [0u64; 256];

@@ -11,7 +11,7 @@ use record::number::u64_at;
 ghost use mathlib.Core.Path.{_≡_};
 ghost use Prim.Native.Nat.{_+_, _*_, _<_, _≤_};
 ghost use lib.ListN.{length};
-ghost use Rattle.taxa.specs.Sets.{multiplicity, multiplicityIn};
+ghost use Rattle.taxa.specs.Sets.{multiplicity, multiplicityIn, Tabled};
 ghost use Rattle.matrix.specs.Matrix.{hasMultiplicities, multiplicityCount, multiplicitiesIn, Multiplied, columnsAt, columnAt, columnIn};
 ghost use Rattle.matrix.specs.Check as check;
 
@@ -213,9 +213,9 @@ fn multiplicity_count(file: &[u8]) -> usize
 }
 
 // The multiplicities of a file that the check takes.
-pub fn planes_in(file: &[u8]) -> [u64; 8]
+pub fn planes_in(file: &[u8]) -> [u64; 72]
     requires { ⌜ Multiplied (now file) ⌝ }
-    ensures { λ r. ⌜ multiplicityIn r ≡ multiplicity (multiplicitiesIn (now (file .entry))) ⌝ }
+    ensures { λ r. ⌜ (multiplicityIn r ≡ multiplicity (multiplicitiesIn (now (file .entry)))) × Tabled r ⌝ }
 {
     taxa::planes_of(&file[12..12 + multiplicity_count(file)])
 }

@@ -65,7 +65,7 @@ pub fn score_from_c(matrix: &[u8], answer: &[u8]) -> u64
 // The search of a group, which the split clears away; its lists are lent here.
 pub fn search(
     weights: &[u16],
-    planes: &[u64; 8],
+    planes: &[u64; 72],
     ones: &[u64],
     zeros: &[u64],
     group: u64,

@@ -23,21 +23,21 @@ pub struct Raises(pub u32);
 pub struct Lowers(pub u32);
 
 // "The taxa in both Z and X".
-fn raises_at(planes: &[u64; 8], it: Column, node: u64) -> Raises
+fn raises_at(planes: &[u64; 72], it: Column, node: u64) -> Raises
     ensures { λ r. ⌜ (r .0 ≡ score.raisesAt (multiplicityIn (now (planes .entry))) it node) × (r .0 ≤ 8128) ⌝ }
 {
     Raises(taxa::mass_in(planes, taxa::common(it.zeros, node)))
 }
 
 // "The taxa of O outside X".
-fn lowers_at(planes: &[u64; 8], it: Column, node: u64) -> Lowers
+fn lowers_at(planes: &[u64; 72], it: Column, node: u64) -> Lowers
     ensures { λ r. ⌜ (r .0 ≡ score.lowersAt (multiplicityIn (now (planes .entry))) it node) × (r .0 ≤ 8128) ⌝ }
 {
     Lowers(taxa::mass_in(planes, taxa::difference(it.ones, node)))
 }
 
 // The score of a column at one node.
-fn distance(planes: &[u64; 8], it: Column, node: u64) -> u32
+fn distance(planes: &[u64; 72], it: Column, node: u64) -> u32
     ensures { λ r. ⌜ r ≡ score.distance (multiplicityIn (now (planes .entry))) it node ⌝ }
 {
     let raises = raises_at(planes, it, node);
@@ -46,7 +46,7 @@ fn distance(planes: &[u64; 8], it: Column, node: u64) -> u32
 }
 
 // Whether a node counts before another: nearer, or as near with fewer raises.
-fn nearer(planes: &[u64; 8], it: Column, node: u64, other: u64) -> bool
+fn nearer(planes: &[u64; 72], it: Column, node: u64, other: u64) -> bool
     ensures { λ r. ⌜ r ≡ score.nearer (multiplicityIn (now (planes .entry))) it node other ⌝ }
 {
     let here = distance(planes, it, node);
@@ -60,7 +60,7 @@ fn nearer(planes: &[u64; 8], it: Column, node: u64, other: u64) -> bool
     raises_at(planes, it, node).0 < raises_at(planes, it, other).0
 }
 
-fn nearest_of(planes: &[u64; 8], it: Column, node: u64, best: u64) -> u64
+fn nearest_of(planes: &[u64; 72], it: Column, node: u64, best: u64) -> u64
     ensures { λ r. ⌜ r ≡ score.nearest (multiplicityIn (now (planes .entry))) it node best ⌝ }
 {
     if nearer(planes, it, node, best) {
@@ -71,7 +71,7 @@ fn nearest_of(planes: &[u64; 8], it: Column, node: u64, best: u64) -> u64
 }
 
 // The leaf that counts, of the first n taxa.
-fn nearest_leaf(planes: &[u64; 8], it: Column, n: u32) -> u64
+fn nearest_leaf(planes: &[u64; 72], it: Column, n: u32) -> u64
     requires { ⌜ n ≤ 64 ⌝ }
     ensures { λ r. ⌜ r ≡ score.nearestIn (multiplicityIn (now (planes .entry))) it score.leaf n (score.leaf 0) ⌝ }
 {
@@ -83,7 +83,7 @@ fn nearest_leaf(planes: &[u64; 8], it: Column, n: u32) -> u64
 }
 
 // The node that counts: of the leaf that does, and the first k groups.
-fn nearest_node(planes: &[u64; 8], it: Column, groups: &[u64], k: usize, leaf: u64) -> u64
+fn nearest_node(planes: &[u64; 72], it: Column, groups: &[u64], k: usize, leaf: u64) -> u64
     requires { ⌜ k ≤ length (now groups) ⌝ }
     ensures { λ r. ⌜ r ≡ score.nearestIn (multiplicityIn (now (planes .entry))) it (λ i. getD (now (groups .entry)) i 0) k leaf ⌝ }
 {
@@ -95,7 +95,7 @@ fn nearest_node(planes: &[u64; 8], it: Column, groups: &[u64], k: usize, leaf: u
 }
 
 // The node of the tree that counts for a column.
-fn node_for(planes: &[u64; 8], it: Column, n: u32, groups: &[u64], k: usize) -> u64
+fn node_for(planes: &[u64; 72], it: Column, n: u32, groups: &[u64], k: usize) -> u64
     requires { ⌜ (n ≤ 64) × (k ≤ length (now groups)) ⌝ }
     ensures { λ r. ⌜ r ≡ score.nodeFor (multiplicityIn (now (planes .entry))) n (now (groups .entry)) k it ⌝ }
 {
@@ -117,7 +117,7 @@ fn weighed(weight: u16, flips: u32) -> u32
 }
 
 // A column's score at its node added to those before it: nothing, whatever the node, if the column has no 1.
-fn with_column(planes: &[u64; 8], sum: Sums, it: Column, node: u64) -> Sums
+fn with_column(planes: &[u64; 72], sum: Sums, it: Column, node: u64) -> Sums
     requires { ⌜
         (sum .raises .0 ≤ 255 * columnMost) × (sum .lowers .0 ≤ 255 * columnMost)
         × Light (multiplicityIn (now planes)) it ⌝ }
@@ -140,7 +140,14 @@ fn with_column(planes: &[u64; 8], sum: Sums, it: Column, node: u64) -> Sums
 }
 
 // The score of the first m columns of a file that the check takes.
-fn score_columns(planes: &[u64; 8], file: &[u8], m: usize, n: u32, groups: &[u64], k: usize) -> Sums
+fn score_columns(
+    planes: &[u64; 72],
+    file: &[u8],
+    m: usize,
+    n: u32,
+    groups: &[u64],
+    k: usize,
+) -> Sums
     requires { ⌜
         (m ≤ 256) × (columnsAt (now file) + 22 * m ≤ length (now file)) × (n ≤ 64) × (k ≤ length (now groups))
         × ((j : ℕ) → j < m → Light (multiplicityIn (now planes)) (columnIn (now file) j)) ⌝ }

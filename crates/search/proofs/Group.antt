@@ -283,7 +283,7 @@ module _ {W P O Z : List ℕ} {S n m : ℕ} (g : Given W P O Z S n m) {J L : Lis
       omega (arith, l .is c b, mul-le-mul-left (nth W c) (mass-in 64 (multiplicityIn P) (g .positive) by q))
 
   pub net : ((c : ℕ) → c < m → nth W c < 65536) → Net W P J L n m
-  net light = record { taxa = g .taxa; columns = g .columns; weights = g .weights; positive = g .positive; light = light; low = λ c b i h. below n (g .group) (record { is = joins-in c b i h }); wide = wide }
+  net light = record { taxa = g .taxa; columns = g .columns; weights = g .weights; positive = g .positive; tabled = g .tabled; light = light; low = λ c b i h. below n (g .group) (record { is = joins-in c b i h }); wide = wide }
 
   cost-is : (A : ℕ) → A ⊆ S → costs W P J L n m (has A) ≡ divisionCost n (multiplicityIn P) m (colsOf W O Z) S A
   cost-is A h = same-cost n caps-is through-is (has A) ∙ network-cost n (multiplicityIn P) m (colsOf W O Z) S A h

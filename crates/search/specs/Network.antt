@@ -7,7 +7,7 @@ use Prim.Native.Nat.{ℕ, _*_, _≤_, _<_}
 use lib.IntN.{ℤ}
 use lib.ListN.{length, getD}
 use Rattle.taxa.specs.Sum.{sum}
-use Rattle.taxa.specs.Sets.{has, Positive, multiplicityIn}
+use Rattle.taxa.specs.Sets.{has, Positive, multiplicityIn, Tabled}
 use Rattle.method.specs.Flow.{ColumnFlow}
 use Rattle.search.specs.Workspace.{outs, inns}
 
@@ -52,6 +52,7 @@ pub record Net (W P J L : List ℕ) (n m : ℕ) : Type 0 where
   pub columns : m ≤ 256
   pub weights : m ≤ length W
   pub positive : Positive (multiplicityIn P)
+  pub tabled : Tabled P
   pub light : (c : ℕ) → c < m → nth W c < 65536
   pub low : (c : ℕ) → c < m → (i : ℕ) → has (nth J c) i ≡ true → i < n
   pub wide : (c : ℕ) → c < m → (i : ℕ) → has (nth J c) i ≡ true → nth W c ≤ nth L c

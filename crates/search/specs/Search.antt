@@ -6,7 +6,7 @@ use mathlib.Core.Logic.{_↔_}
 use Prim.Native.Nat.{ℕ, _^_, _≤_, _<_}
 use lib.IntN.{ℤ}
 use lib.ListN.{length}
-use Rattle.taxa.specs.Sets.{has, count, low, Positive, multiplicityIn}
+use Rattle.taxa.specs.Sets.{has, count, low, Positive, multiplicityIn, Tabled}
 use Rattle.method.specs.Split.{Column, divisionCost, side, parted}
 use Rattle.method.specs.Flow.{cap, through, Flow, Reach}
 use Rattle.search.specs.Workspace.{outs, inns}
@@ -16,7 +16,7 @@ use Rattle.search.specs.Network.{nth}
 unfoldable pub colsOf : List ℕ → List ℕ → List ℕ → ℕ → Column
 colsOf W O Z c = record { weight = nth W c; ones = nth O c; zeros = nth Z c }
 
--- m columns, a group S of at least two of n taxa, and multiplicities of which none is 0.
+-- m columns, a group S of at least two of n taxa, and multiplicities of which none is 0, with their table.
 pub record Given (W P O Z : List ℕ) (S n m : ℕ) : Type 0 where
   pub taxa : n ≤ 64
   pub columns : m ≤ 256
@@ -26,6 +26,7 @@ pub record Given (W P O Z : List ℕ) (S n m : ℕ) : Type 0 where
   pub group : S < 2 ^ n
   pub two : 1 < count n S
   pub positive : Positive (multiplicityIn P)
+  pub tabled : Tabled P
 
 module _ (W P O Z : List ℕ) (S n m : ℕ) where
   -- "Arcs between a taxon of S and its columns [..] carry at most w", times the taxon's multiplicity.

@@ -28,7 +28,7 @@ fn unless_none(z: u64, x: u64) -> u64
 // The network of the group: each column joins its ones in it, if it has a zero there, and lets its weight through for each specimen of its zeros.
 fn network_of(
     weights: &[u16],
-    planes: &[u64; 8],
+    planes: &[u64; 72],
     ones: &[u64],
     zeros: &[u64],
     group: u64,
@@ -57,7 +57,7 @@ fn network_of(
 // The taxa that hops reach from the sources past no flow.
 fn connected(
     weights: &[u16],
-    planes: &[u64; 8],
+    planes: &[u64; 72],
     joined: &[u64; 256],
     limits: &[u32; 256],
     n: usize,
@@ -129,7 +129,7 @@ fn tied(weights: &[u16], joined: &[u64; 256], m: usize, lower: u64, u: usize) ->
 // from all of them to u, is what such a set costs at least.
 fn attempt(
     weights: &[u16],
-    planes: &[u64; 8],
+    planes: &[u64; 72],
     joined: &[u64; 256],
     limits: &[u32; 256],
     group: u64,
@@ -188,7 +188,7 @@ fn attempt(
 // The least that parts a taxon of the group from its lowest, and the first such taxon.
 fn cheapest(
     weights: &[u16],
-    planes: &[u64; 8],
+    planes: &[u64; 72],
     joined: &[u64; 256],
     limits: &[u32; 256],
     group: u64,
@@ -258,7 +258,7 @@ pub struct Split {
 // The division that document 01 takes. Cost 0 is found without a flow; else the flow of the taxon that is parted stands in the workspace, run last.
 pub fn divide(
     weights: &[u16],
-    planes: &[u64; 8],
+    planes: &[u64; 72],
     ones: &[u64],
     zeros: &[u64],
     group: u64,

@@ -49,7 +49,7 @@ fn index(x: u32) -> usize
 // If hops reach t, what the path to it carries is pushed along it.
 fn advance(
     weights: &[u16],
-    planes: &[u64; 8],
+    planes: &[u64; 72],
     joined: &[u64; 256],
     limits: &[u32; 256],
     n: usize,
@@ -108,7 +108,7 @@ fn advance(
 // One hop straight from a source to t through column c, if that joins both, carries what it can: the size of the flow with that.
 fn direct_hop(
     weights: &[u16],
-    planes: &[u64; 8],
+    planes: &[u64; 72],
     joined: &[u64; 256],
     limits: &[u32; 256],
     n: usize,
@@ -142,7 +142,7 @@ fn direct_hop(
 // The size of the flow that hops straight from the sources to t make, past none.
 fn direct_hops(
     weights: &[u16],
-    planes: &[u64; 8],
+    planes: &[u64; 72],
     joined: &[u64; 256],
     limits: &[u32; 256],
     n: usize,
@@ -202,7 +202,7 @@ pub fn unused(used: &mut [u32; 256], m: usize)
 // A largest flow from the sources to t, from whatever stands in the workspace; it stops once it is no smaller than the bound.
 pub fn largest(
     weights: &[u16],
-    planes: &[u64; 8],
+    planes: &[u64; 72],
     joined: &[u64; 256],
     limits: &[u32; 256],
     n: usize,

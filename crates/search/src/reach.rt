@@ -5,7 +5,7 @@ ghost use mathlib.Core.Path.{_≡_};
 ghost use mathlib.Core.Bool.{true, false};
 ghost use Prim.Native.Nat.{_+_, _-_, _*_, _≤_, _<_, _^_, min, max};
 ghost use lib.ListN.{length};
-ghost use Rattle.taxa.specs.Sets.{has, _⊆_, multiplicityIn};
+ghost use Rattle.taxa.specs.Sets.{has, _⊆_, multiplicityIn, Tabled};
 ghost use Rattle.search.specs.Workspace.{outs, inns, Entry};
 ghost use Rattle.search.specs.Network as network;
 ghost use Rattle.search.specs.Network.{nth, Ready};
@@ -32,8 +32,8 @@ pub fn wide(x: u16) -> u32
 }
 
 // What the arc between a column of the weight and taxon i carries.
-fn arc(weight: u32, planes: &[u64; 8], i: usize) -> u32
-    requires { ⌜ (weight < 65536) × (i < 64) ⌝ }
+fn arc(weight: u32, planes: &[u64; 72], i: usize) -> u32
+    requires { ⌜ (weight < 65536) × (i < 64) × Tabled (now planes) ⌝ }
     ensures { λ r. ⌜ (r ≡ weight * multiplicityIn (now (planes .entry)) i) × (r < 2 ^ 23) ⌝ }
 {
     weight * taxa::multiplicity(planes, i as u32)
@@ -49,7 +49,7 @@ pub struct Gate {
 
 pub fn gate_at(
     weights: &[u16],
-    planes: &[u64; 8],
+    planes: &[u64; 72],
     limits: &[u32; 256],
     n: usize,
     ws: &[i32],
@@ -63,7 +63,8 @@ pub fn gate_at(
         × (nth (now weights) c < 65536)
         × Entry (now ws) n c i (network.arc (now weights) (now planes) c i)
         × (nth (now used) c ≤ nth (now limits) c)
-        × (i < 64) ⌝ }
+        × (i < 64)
+        × Tabled (now planes) ⌝ }
     ensures { λ r. ⌜
         IsGate (now (weights .entry)) (now (planes .entry)) (now (limits .entry)) (now (used .entry)) n (now (ws .entry)) c i
         (r .weight) (r .sends) (r .back) (r .room) ⌝ }
@@ -81,8 +82,8 @@ pub fn gate_at(
 }
 
 // What a hop to taxon j carries.
-pub fn carry_to(g: Gate, planes: &[u64; 8], ws: &[i32], n: usize, c: usize, j: usize) -> u32
-    requires { ⌜ (g .weight < 65536) × Entry (now ws) n c j (g .weight * multiplicityIn (now planes) j) × (j < 64) ⌝ }
+pub fn carry_to(g: Gate, planes: &[u64; 72], ws: &[i32], n: usize, c: usize, j: usize) -> u32
+    requires { ⌜ (g .weight < 65536) × Entry (now ws) n c j (g .weight * multiplicityIn (now planes) j) × (j < 64) × Tabled (now planes) ⌝ }
     ensures { λ r. ⌜
         r ≡ min (min (g .sends) (g .weight * multiplicityIn (now (planes .entry)) j + outs (now (ws .entry)) n c j - inns (now (ws .entry)) n c j))
         (max (max (g .back) (outs (now (ws .entry)) n c j)) (g .room)) ⌝ }
@@ -115,7 +116,7 @@ fn offer(tree: &mut [u32; 256], met: u64, j: usize, i: usize, c: usize, stamp: u
 // a one if it turns flow back or the column has room; where none of those does, any that sends.
 fn sender(
     weights: &[u16],
-    planes: &[u64; 8],
+    planes: &[u64; 72],
     joined: &[u64; 256],
     limits: &[u32; 256],
     n: usize,
@@ -147,7 +148,7 @@ fn sender(
 // The taxa that a hop from i through column c reaches join.
 fn through(
     weights: &[u16],
-    planes: &[u64; 8],
+    planes: &[u64; 72],
     joined: &[u64; 256],
     limits: &[u32; 256],
     n: usize,
@@ -184,7 +185,7 @@ fn through(
 // The taxa that a hop from a taxon met through column c reaches join.
 fn pass(
     weights: &[u16],
-    planes: &[u64; 8],
+    planes: &[u64; 72],
     joined: &[u64; 256],
     limits: &[u32; 256],
     n: usize,
@@ -237,7 +238,7 @@ fn hits(goal: u64, a: u64) -> bool
 // One sweep over the columns from the first that is asked for, until a taxon of the goal is reached.
 fn sweep(
     weights: &[u16],
-    planes: &[u64; 8],
+    planes: &[u64; 72],
     joined: &[u64; 256],
     limits: &[u32; 256],
     n: usize,
@@ -296,7 +297,7 @@ fn plant(tree: &mut [u32; 256], sources: u64)
 // follow it: the goal is met soonest where the last path to it came through.
 pub fn reach(
     weights: &[u16],
-    planes: &[u64; 8],
+    planes: &[u64; 72],
     joined: &[u64; 256],
     limits: &[u32; 256],
     n: usize,

@@ -8,7 +8,7 @@ use lib.Dec.{ltb}
 use lib.IntN.{ℤ}
 use lib.ListN.{length}
 use borrow.Author.Tests.{lt-ltb, le-ltb}
-use Rattle.taxa.specs.Sets.{within, Positive, multiplicity, multiplicityIn, count, all}
+use Rattle.taxa.specs.Sets.{within, Positive, multiplicity, multiplicityIn, Tabled, count, all}
 use Rattle.taxa.proofs.Members.{⊆-≤, all-<, within-⊆}
 use Rattle.taxa.proofs.Counts.{count-width}
 use Rattle.record.specs.Bytes.{File}
@@ -69,8 +69,8 @@ module _ {file : List ℕ} {S n m room : ℕ} (f : File file) (s : Splittable fi
   two-of-n = omega (arith, s .two, count-width taxa-few below-n)
 
   module _ {ws P os zs : List ℕ} (p : Parallel ws os zs) (long : length ws ≡ m) where
-    pub given : Positive (multiplicityIn P) → Given ws P os zs S n m
-    given pos = record {
+    pub given : Positive (multiplicityIn P) → Tabled P → Given ws P os zs S n m
+    given pos tab = record {
       taxa = taxa-few;
       columns = few-columns f (s .taken);
       weights = omega arith;
@@ -79,6 +79,7 @@ module _ {file : List ℕ} {S n m room : ℕ} (f : File file) (s : Splittable fi
       group = below-n;
       two = two-of-n;
       positive = pos;
+      tabled = tab;
     }
 
   -- The method's answer for multiplicities and columns.

@@ -52,14 +52,14 @@ fn lower(it: Column, set: u64) -> Column
 }
 
 // What the taxa of x that are in y stand for.
-fn mass_common(planes: &[u64; 8], x: u64, y: u64) -> u32
+fn mass_common(planes: &[u64; 72], x: u64, y: u64) -> u32
     ensures { λ r. ⌜ r ≡ mass 64 (multiplicityIn (now (planes .entry))) (x ∩ y) ⌝ }
 {
     taxa::mass_in(planes, taxa::common(x, y))
 }
 
 // What a division of the group flips of a column: its 0s in the group are raised, or its ones on one side lowered.
-fn flip(planes: &[u64; 8], it: Column, group: u64, side: u64) -> Column
+fn flip(planes: &[u64; 72], it: Column, group: u64, side: u64) -> Column
     ensures { λ r. ⌜ columnOf r ≡ method.flip 64 (multiplicityIn (now (planes .entry))) group side (columnOf it) ⌝ }
 {
     let rest = taxa::difference(group, side);
@@ -78,7 +78,7 @@ fn flip(planes: &[u64; 8], it: Column, group: u64, side: u64) -> Column
 // Every column flipped by a division of the group.
 pub fn flip_columns(
     weights: &[u16],
-    planes: &[u64; 8],
+    planes: &[u64; 72],
     ones: &mut [u64],
     zeros: &mut [u64],
     group: u64,

@@ -15,7 +15,7 @@ ghost use Rattle.split.specs.Groups.{IsSplit, HandsOn};
 // The division that document 01 takes. The search's flow is cleared away.
 pub fn divide(
     weights: &[u16],
-    planes: &[u64; 8],
+    planes: &[u64; 72],
     ones: &[u64],
     zeros: &[u64],
     group: u64,
@@ -63,7 +63,7 @@ pub struct Handed {
 // The split of a group of n taxa: the columns are flipped, and the parts go into the first places of a lent list.
 pub fn split_group(
     weights: &[u16],
-    planes: &[u64; 8],
+    planes: &[u64; 72],
     ones: &mut [u64],
     zeros: &mut [u64],
     group: u64,

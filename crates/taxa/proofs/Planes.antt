@@ -14,7 +14,7 @@ use Rattle.taxa.specs.Sum.{sum, inside}
 use Rattle.taxa.specs.Sets.{has, _∈_, _∩_, _∪_, _∖_, mass, unit, count, multiplicity, planar, planeSum, multiplicityIn, planeHas, Multiplicities}
 use Rattle.taxa.proofs.Sums.{sum-≡, sum-*, sum-first, sum-bound}
 use Rattle.taxa.proofs.Insides.{inside-swap}
-use Rattle.taxa.proofs.Digits.{bit, bit-has, bit-zero, one, half-lt, has-suc, has-∪, has-none, has-pow}
+use Rattle.taxa.proofs.Digits.{bit-has, bit-zero, one, half-lt, has-suc, has-∪, has-none, has-pow}
 use Rattle.taxa.proofs.Members.{out, in∩, in∖, ∩-disjoint}
 use Rattle.taxa.proofs.Masses.{mass-inside, mass-times, mass-≡, mass-on, mass-le, mass-∖-∩}
 
@@ -53,15 +53,6 @@ digits (suc k) x h = omega (arith, sum-first k (inside (has x) (λ j. 2 ^ j)), f
 -- What seven digits come to, the highest first.
 abbrev worth : (ℕ → ℕ) → ℕ
 worth d = d 0 + 2 * (d 1 + 2 * (d 2 + 2 * (d 3 + 2 * (d 4 + 2 * (d 5 + 2 * d 6)))))
-
--- A digit as a test.
-pub digit-is : (x i : ℕ) → x / 2 ^ i % 2 ≡ cond (has x i) 1 0
-unfolding bit
-digit-is x i = bit-has x i ∙ go (has x i)
-  where
-    go : (p : Bool) → one p ≡ cond p 1 0
-    go true = refl
-    go false = refl
 
 one-at-most : (p : Bool) → cond p 1 0 ≤ 1
 one-at-most true = omega arith

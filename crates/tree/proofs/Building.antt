@@ -9,7 +9,7 @@ use lib.IntN.{ℤ, pos}
 use lib.ListN.{length, take, drop, replicate, length-replicate, length-append, length-drop}
 use lib.Seq.{take-at, drop-at, getD-take}
 use borrow.Author.Tests.{lt-ltb, le-ltb}
-use Rattle.taxa.specs.Sets.{Positive, multiplicity, multiplicityIn, all}
+use Rattle.taxa.specs.Sets.{Positive, multiplicity, multiplicityIn, Tabled, all}
 use Rattle.taxa.proofs.Members.{all-<, all-fits}
 use Rattle.taxa.proofs.Counts.{count-all}
 use Rattle.record.specs.Bytes.{File, over}
@@ -72,13 +72,14 @@ module _ {file : List ℕ} {n m space room : ℕ} (f : File file) (b : Buildable
 
   -- ---- the walk from all taxa
 
-  grow-ready : {ws P os zs : List ℕ} {clear : List ℤ} (before : List ℤ) → Parallel ws os zs → multiplicityIn P ≡ file-multiplicities → length ws ≡ m → clear ≡ cleared (n * m) before → length clear ≡ space
+  grow-ready : {ws P os zs : List ℕ} {clear : List ℤ} (before : List ℤ) → Parallel ws os zs → multiplicityIn P ≡ file-multiplicities → Tabled P → length ws ≡ m → clear ≡ cleared (n * m) before → length clear ≡ space
       → Ready ws P os zs (all n) n clear
-  grow-ready before p u e c l =
+  grow-ready before p u t e c l =
       record {
         parallel = p;
         columns = omega (arith, few-columns f (b .taken));
         positive = subst Positive (sym u) (ok .positive);
+        tabled = t;
         taxa = few-taxa f (b .taken);
         group = all-< n;
         places = rw e (omega (arith, b .places));
@@ -114,8 +115,8 @@ module _ {file : List ℕ} {n m space room : ℕ} (f : File file) (b : Buildable
     pub lent-columns : colsOf ws os zs ≡ file-columns → colsOf lent (entriesFor lent (os ++ o)) (entriesFor lent (zs ++ z)) ≡ file-columns
     lent-columns e = rw (ones-are, zeros-are, lent-is) e
 
-    pub lent-ready : multiplicityIn P ≡ file-multiplicities → {clear : List ℤ} (before : List ℤ) → clear ≡ cleared (n * m) before → length clear ≡ space → Ready lent P (entriesFor lent (os ++ o)) (entriesFor lent (zs ++ z)) (all n) n clear
-    lent-ready u before c l = rw (ones-are, zeros-are, lent-is) (grow-ready before p u sized c l)
+    pub lent-ready : multiplicityIn P ≡ file-multiplicities → Tabled P → {clear : List ℤ} (before : List ℤ) → clear ≡ cleared (n * m) before → length clear ≡ space → Ready lent P (entriesFor lent (os ++ o)) (entriesFor lent (zs ++ z)) (all n) n clear
+    lent-ready u t before c l = rw (ones-are, zeros-are, lent-is) (grow-ready before p u t sized c l)
 
     pub lent-room : {ts cs : List ℕ} → length ts ≡ 63 → length cs ≡ 63 → Room (length (walkFrom lent P (entriesFor lent (os ++ o)) (entriesFor lent (zs ++ z)) (all n) .groups)) ts cs
     lent-room t c = grow-room lent P _ _ lent-sized t c

@@ -35,6 +35,7 @@ module _ {ws P os zs : List ℕ} {S n : ℕ} {space : List ℤ} (r : Ready ws P 
         group = r .group;
         two = two-n;
         positive = r .positive;
+        tabled = r .tabled;
       }
 
 -- ---- what is handed on

@@ -118,7 +118,7 @@ pub ready-part : {ws P os zs os′ zs′ : List ℕ} {S Q n : ℕ} {space space�
     → Ready ws P os′ zs′ Q n space′
 ready-part {ws} {P} {os′ = os′} {zs′} {Q = Q} {n} r p e f =
     subst (λ (l : List ℤ). Ready ws P os′ zs′ Q n l) (sym e)
-    (record { parallel = p; columns = r .columns; positive = r .positive; taxa = r .taxa; group = f; places = r .places; clear = r .clear })
+    (record { parallel = p; columns = r .columns; positive = r .positive; tabled = r .tabled; taxa = r .taxa; group = f; places = r .places; clear = r .clear })
 
 pub ready-wide : {ws P os zs : List ℕ} {S n : ℕ} {space : List ℤ} → Ready ws P os zs S n space → S < 2 ^ 64
 ready-wide r = omega (arith, r .group, pow-mono (r .taxa))

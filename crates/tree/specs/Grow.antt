@@ -4,7 +4,7 @@ use mathlib.Core.List.{List, _++_}
 use Prim.Native.Nat.{ℕ, _+_, _*_, _^_, _≤_, _<_}
 use lib.IntN.{ℤ}
 use lib.ListN.{length, getD, take}
-use Rattle.taxa.specs.Sets.{Positive, multiplicityIn, count}
+use Rattle.taxa.specs.Sets.{Positive, multiplicityIn, Tabled, count}
 use Rattle.matrix.specs.Matrix.{columnsAt}
 use Rattle.method.specs.Tree.{Group, Walk, build, walked, ordered, total}
 use Rattle.answer.specs.declared.Written.{Written}
@@ -18,11 +18,12 @@ use Rattle.tree.specs.declared.Built.{Built}
 use Rattle.tree.specs.declared.Built.the-variants.{Taken, Refused}
 use Rattle.tree.specs.Lists.{firstGroups, Room}
 
--- At most 256 columns in three lists, multiplicities of which none is 0, a group of taxa below n, and a workspace whose first n x m numbers are 0.
+-- At most 256 columns in three lists, multiplicities of which none is 0, with their table, a group of taxa below n, and a workspace whose first n x m numbers are 0.
 pub record Ready (ws P os zs : List ℕ) (S n : ℕ) (space : List ℤ) : Type 0 where
   pub parallel : Parallel ws os zs
   pub columns : length ws ≤ 256
   pub positive : Positive (multiplicityIn P)
+  pub tabled : Tabled P
   pub taxa : n ≤ 64
   pub group : S < 2 ^ n
   pub places : n * length ws ≤ length space

@@ -19,7 +19,7 @@ use split::group::split_group;
 // The split of a group, on columns in the first entries of longer lists.
 fn split_first(
     weights: &[u16],
-    planes: &[u64; 8],
+    planes: &[u64; 72],
     ones: &mut [u64],
     zeros: &mut [u64],
     group: u64,
@@ -66,7 +66,7 @@ fn split_first(
 // The group and all below it, after those that stand before `at`. Returns how many there are then.
 pub fn grow(
     weights: &[u16],
-    planes: &[u64; 8],
+    planes: &[u64; 72],
     ones: &mut [u64; 256],
     zeros: &mut [u64; 256],
     ws: &mut [i32],
@@ -139,7 +139,7 @@ pub fn grow(
 // The first k parts of a list built one after the other; each has fewer than `bound` taxa.
 fn walk(
     weights: &[u16],
-    planes: &[u64; 8],
+    planes: &[u64; 72],
     ones: &mut [u64; 256],
     zeros: &mut [u64; 256],
     ws: &mut [i32],

@@ -74,7 +74,7 @@ fn write_answer(
 // The walk from all taxa. The lists of the search and of the parts stand only while the tree grows. Returns how many groups there are.
 fn grow_all(
     weights: &[u16],
-    planes: &[u64; 8],
+    planes: &[u64; 72],
     ones: &mut [u64; 256],
     zeros: &mut [u64; 256],
     n: usize,

@@ -42,7 +42,7 @@ score-columns-requires c κs =
     let f = bytes at in
     let taken = at .before .pre .taken in
     let l = lies (at .before) in
-    (omega (arith, taken-columns f taken, taken-legal f taken .columns-fit), omega (arith, taken-length f taken), omega (arith, taken-taxa f taken, taken-legal f taken .taxa-fit), groups-placed _ (value .answer-in .ensures) (omega (arith, l .head-kept .few, l .head-kept .fewer)), rw (loaded .planes-in .ensures) (taken-light f taken))
+    (omega (arith, taken-columns f taken, taken-legal f taken .columns-fit), omega (arith, taken-length f taken), omega (arith, taken-taxa f taken, taken-legal f taken .taxa-fit), groups-placed _ (value .answer-in .ensures) (omega (arith, l .head-kept .few, l .head-kept .fewer)), rw (loaded .planes-in .ensures .0) (taken-light f taken))
 
 returns-3 : tie.Need-returns-3
 returns-3 c =
@@ -50,7 +50,7 @@ returns-3 c =
     let loaded = made .before .before .before .before .before in
     let columns = loaded .before in
     let taxa = columns .before .before in
-    taken-row _ _ _ _ (taxa .before .before .answer-in .ensures) (loaded .planes-in .ensures) (omega (arith, taxa .if1 .left)) (omega (arith, columns .if2 .left)) (made .score-columns .ensures .0 .0) (made .score-columns .ensures .1 .0)
+    taken-row _ _ _ _ (taxa .before .before .answer-in .ensures) (loaded .planes-in .ensures .0) (omega (arith, taxa .if1 .left)) (omega (arith, columns .if2 .left)) (made .score-columns .ensures .0 .0) (made .score-columns .ensures .1 .0)
 
 pub score-read-spec : {M : Type 1} → statement M
 score-read-spec =

@@ -40,7 +40,7 @@ divide-requires c κs =
     let load = loading read in
     let at = entry load in
     let pre = at .before .pre in
-    (given (bytes at) (pre .0) (load .load .ensures .1) (load .load .ensures .2 ∙ pre .2) (read-positive (bytes at) (pre .0 .taken) _ (read .planes-in .ensures)), pre .0 .long, record { joins = refl; limits = refl; spare = record { counts = refl; tree = refl } })
+    (given (bytes at) (pre .0) (load .load .ensures .1) (load .load .ensures .2 ∙ pre .2) (read-positive (bytes at) (pre .0 .taken) _ (read .planes-in .ensures .0)) (read .planes-in .ensures .1), pre .0 .long, record { joins = refl; limits = refl; spare = record { counts = refl; tree = refl } })
 
 returns : tie.Need-returns
 returns c =
@@ -49,7 +49,7 @@ returns c =
     let load = loading read in
     let at = entry load in
     let pre = at .before .pre .0 in
-    (found (bytes at) pre (division .divide .ensures .0) (read-multiplicities (bytes at) (pre .taken) _ (read .planes-in .ensures)) (load .load .ensures .0), division .divide .ensures .1)
+    (found (bytes at) pre (division .divide .ensures .0) (read-multiplicities (bytes at) (pre .taken) _ (read .planes-in .ensures .0)) (load .load .ensures .0), division .divide .ensures .1)
 
 pub split-loaded-spec : {M : Type 1} → statement M
 split-loaded-spec =

@@ -1,20 +1,18 @@
--- `taxa::multiplicity` meets its contract: several, by its digits, or one.
+-- `taxa::multiplicity` meets its contract, by the table.
 use borrow.Author.Needs.{needs}
-use mathlib.Core.Path.{sym, _∙_}
-use mathlib.Core.Bool.{true, false}
-use Rattle.taxa.proofs.Planes.{stands}
+use native.Mathlib.Omega.{arith}
+use Rattle.taxa.proofs.Planes.{in-small}
 use Rattle.taxa.proofs.multiplicity.Statement.{statement}
 use Rattle.taxa.proofs.multiplicity.Tie as tie
 
+cast-result : tie.Need-cast-result
+cast-result c = let a = c .before .args in omega (arith, c .before .pre .1 .is (a .i) (c .before .pre .0), in-small (a .planes .now) (a .i))
+
 returns : tie.Need-returns
 returns c =
-    let start = c .before .before .before .before .args in
-    search (needs, stands (start .planes .now) (start .i) true (sym (c .before .before .contains .ensures) ∙ c .before .if1 .taken))
-
-returns-2 : tie.Need-returns-2
-returns-2 c =
-    let start = c .before .before .before .args in
-    search (needs, stands (start .planes .now) (start .i) false (sym (c .before .contains .ensures) ∙ c .if1 .left))
+    let a = c .before .args in
+    let is = c .before .pre .1 .is (a .i) (c .before .pre .0) in
+    (is, omega (arith, is, in-small (a .planes .now) (a .i)))
 
 pub multiplicity-spec : {M : Type 1} → statement M
-multiplicity-spec = tie.close (tie.spec (λ c. search needs) (λ c κs. search needs) (λ c κs. search needs) returns returns-2)
+multiplicity-spec = tie.close (tie.spec (λ c. search needs) (λ c. search needs) (λ c. search needs) cast-result returns)

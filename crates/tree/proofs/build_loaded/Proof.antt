@@ -59,7 +59,7 @@ abbrev planes : tie.After-load → List ℕ
 planes c = read c .planes-in .result
 
 multiplicities : (c : tie.After-load) → multiplicityIn (planes c) ≡ multiplicity (matrixIn (begun (empty c) .args .file .now) .multiplicities)
-multiplicities c = read-multiplicities (bytes (empty c)) (begun (empty c) .pre .taken) (planes c) (read c .planes-in .ensures)
+multiplicities c = read-multiplicities (bytes (empty c)) (begun (empty c) .pre .taken) (planes c) (read c .planes-in .ensures .0)
 
 -- What was loaded.
 loaded-all : (c : tie.After-load) → length (c .load .last .1 .0) ≡ begun (empty c) .args .m
@@ -74,7 +74,7 @@ grow-all-requires c κs =
     let l = load .load in
     let sized = loaded-all load in (
       (
-        lent-ready f b (l .last .1 .0) (planes load) (l .last .1 .1 .0) (l .last .1 .1 .1 .0) _ _ _ (l .ensures .1) sized (multiplicities load) _ (clear .clear .ensures) (clear .clear .kept .0),
+        lent-ready f b (l .last .1 .0) (planes load) (l .last .1 .1 .0) (l .last .1 .1 .1 .0) _ _ _ (l .ensures .1) sized (multiplicities load) (read load .planes-in .ensures .1) _ (clear .clear .ensures) (clear .clear .kept .0),
         record {
           ones = still-long (l .last .1 .1 .0) _ (l .ensures .1 .ones ∙ sized) (m-fits (empty load));
           zeros = still-long (l .last .1 .1 .1 .0) _ (l .ensures .1 .zeros ∙ sized) (m-fits (empty load));

@@ -52,7 +52,7 @@ gate-at-requires c κs =
     let start = begun (joining l) in
     let f = start .pre .0 .ready in
     let b = start .pre .1 in
-    (omega (arith, f .net .columns), omega (arith, f .net .weights), f .net .light (start .args .c) b, entry f b (l .lowest .result) (joins-i l .0), used-fits f b, l .lowest .ensures .1)
+    (omega (arith, f .net .columns), omega (arith, f .net .weights), f .net .light (start .args .c) b, entry f b (l .lowest .result) (joins-i l .0), used-fits f b, l .lowest .ensures .1, f .net .tabled)
 
 carry-to-requires : tie.Need-carry-to-requires
 carry-to-requires c κs =
@@ -61,7 +61,7 @@ carry-to-requires c κs =
     let start = begun (joining l) in
     let f = start .pre .0 .ready in
     let b = start .pre .1 in
-    rw (g .gate-at .ensures .is-weight) (f .net .light (start .args .c) b, entry f b (start .args .t) (joins-t (joining l)), t-low start)
+    rw (g .gate-at .ensures .is-weight) (f .net .light (start .args .c) b, entry f b (start .args .t) (joins-t (joining l)), t-low start, f .net .tabled)
 
 -- What the hop carries.
 carries : (c : tie.After-carry-to) →

@@ -32,7 +32,7 @@ gate-at-requires : tie.Need-gate-at-requires Inv-loop μ-loop
 gate-at-requires c κs =
     let start = begun c in
     let p = start .pre in
-    (omega (arith, p .0 .net .columns), omega (arith, p .0 .net .weights), p .0 .net .light (start .args .c) (p .1), entry (p .0) (p .1) (c .lowest .result) (joins c), used-fits (p .0) (p .1), c .lowest .ensures .1)
+    (omega (arith, p .0 .net .columns), omega (arith, p .0 .net .weights), p .0 .net .light (start .args .c) (p .1), entry (p .0) (p .1) (c .lowest .result) (joins c), used-fits (p .0) (p .1), c .lowest .ensures .1, p .0 .net .tabled)
 
 -- What the gate says of it.
 sends : (c : tie.After-gate-at Inv-loop μ-loop) →

@@ -32,7 +32,7 @@ i-low c = omega (arith, c .pre .0 .net .low (c .args .c) (c .pre .2) (c .args .i
 gate-at-requires : tie.Need-gate-at-requires Inv-loop μ-loop
 gate-at-requires c κs =
     let p = c .before .pre in
-    (omega (arith, p .0 .net .columns), omega (arith, p .0 .net .weights), p .0 .net .light (c .before .args .c) (p .2), entry (p .0) (p .2) (c .before .args .i) (p .3), used-fits (p .0) (p .2), i-low (c .before))
+    (omega (arith, p .0 .net .columns), omega (arith, p .0 .net .weights), p .0 .net .light (c .before .args .c) (p .2), entry (p .0) (p .2) (c .before .args .i) (p .3), used-fits (p .0) (p .2), i-low (c .before), p .0 .net .tabled)
 
 loop-holds : tie.Need-loop-holds Inv-loop μ-loop
 loop-holds c =
@@ -46,7 +46,7 @@ carry-to-requires c κs =
     let g = gate (c .before .before) in
     let p = begun g .pre in
     let h = c .before .before .loop .inv .0 (c .lowest .result) (c .lowest .ensures .2 .is) in
-    rw (g .gate-at .ensures .is-weight) (p .0 .net .light (begun g .args .c) (p .2), entry (p .0) (p .2) (c .lowest .result) (h .0), c .lowest .ensures .1)
+    rw (g .gate-at .ensures .is-weight) (p .0 .net .light (begun g .args .c) (p .2), entry (p .0) (p .2) (c .lowest .result) (h .0), c .lowest .ensures .1, p .0 .net .tabled)
 
 mul-least : tie.Need-mul-least Inv-loop μ-loop
 mul-least c = omega (arith, i-low (begun (gate (c .before .before .before))))
