@@ -1,5 +1,5 @@
--- A file that the check takes is the file of the matrix in it (`taken-is-file`), that matrix is legal (`taken-legal`), and so two files that are taken
--- and hold the same matrix are the same bytes (`same-matrix-same-file`).
+-- A file that the check takes is the file of the matrix in it (`taken-is-file`), that matrix is legal (`taken-legal`), with each of its columns
+-- (`taken-column`), and so two files that are taken and hold the same matrix are the same bytes (`same-matrix-same-file`).
 use mathlib.Core.Path.{_≡_, refl, sym, ap, _∙_, subst}
 use mathlib.Core.Bool.{Bool, true, false}
 use mathlib.Core.List.{List, [], _∷_, _++_, append-assoc, append-nil}
@@ -185,6 +185,12 @@ pub column-of : (file : List ℕ) (c : ℕ) (d : Column) → c < length (matrixO
 unfolding matrixOf
 column-of file = column-from file (numberAt 2 file 6) (columnsAt file)
 
+-- Each of a list of legal columns is legal.
+legal-at : {n : ℕ} {cs : List Column} → LegalColumns n cs → (c : ℕ) (d : Column) → c < length cs → LegalColumn n (getD cs c d)
+legal-at none c d b = absurd (omega arith)
+legal-at (one l ls) zero d b = l
+legal-at (one l ls) (suc c) d b = legal-at ls c d (omega arith)
+
 module _ {file : List ℕ} (f : File file) {n m : ℕ} (taken : Taken n m ≡ checked file) where
   -- "12 + 22m bytes", and 4 + n more with multiplicities.
   pub taken-length : length file ≡ columnsAt file + 22 * m + 4
@@ -209,6 +215,13 @@ module _ {file : List ℕ} (f : File file) {n m : ℕ} (taken : Taken n m ≡ ch
         columns-fit = omega (arith, length-columns file (numberAt 2 file 6) (columnsAt file), r .head-read .columns);
         columns-legal = r .columns-read .legal;
       }
+
+  -- So is each of its columns.
+  pub taken-column : (c : ℕ) → c < m → LegalColumn (matrixOf file .taxa) (columnIn file c)
+  taken-column c b =
+      let d = columnIn file c in
+      let listed : c < length (matrixOf file .columns) = omega (arith, taken-columns) in
+      subst (LegalColumn (matrixOf file .taxa)) (column-of file c d listed) (legal-at (taken-legal .columns-legal) c d listed)
 
   -- Its multiplicities can be read.
   pub taken-multiplied : Multiplied file

@@ -22,7 +22,7 @@ use Rattle.matrix.specs.declared.Checked.the-variants as checks
 use Rattle.matrix.specs.Matrix.{columnIn}
 use Rattle.matrix.specs.Check.{checked}
 use Rattle.matrix.proofs.Places.{refusal-small}
-use Rattle.matrix.proofs.Taken.{taken-legal, taken-columns}
+use Rattle.matrix.proofs.Taken.{taken-legal, taken-columns, taken-column}
 use Rattle.answer.specs.Content.{contentIn, groupCount, flipCount}
 use Rattle.answer.specs.Rules.{headFault, counted, groupFault, placed, compatibleAll, entryFault, kept, sumOf}
 use Rattle.answer.specs.Tests.{judge, inFile, walk, headTest, groupTest, entryTest, endTest, tests}
@@ -33,7 +33,7 @@ use Rattle.score.specs.declared.Scored.the-variants as scores
 use Rattle.score.specs.Score.{columnScore, raisesOf, lowersOf, columnMost}
 use Rattle.score.specs.Operation.{nodeIn, standFor, agreed, afterAnswer, afterMatrix, scored}
 use Rattle.score.proofs.Columns.{column-small}
-use Rattle.score.proofs.Light.{taken-column, taken-light}
+use Rattle.score.proofs.Light.{taken-light}
 
 -- The score's numbers, and 0 where nothing is at fault.
 abbrev Few : ℕ → Type 0

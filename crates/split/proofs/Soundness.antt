@@ -1,28 +1,21 @@
 -- The matrix in a file that the check takes is sound, as all theorems of the method ask (`taken-sound`), and its taxa and columns are counted by n and m.
 use mathlib.Core.Path.{_≡_, sym, subst, _∙_}
 use mathlib.Core.List.{List}
-use Prim.Native.Nat.{ℕ, zero, suc, _+_, _*_, _≤_, _<_}
+use Prim.Native.Nat.{ℕ, _+_, _*_, _≤_, _<_}
 use native.Mathlib.Nat.{mul-le-mul}
 use native.Mathlib.Omega.{arith}
-use lib.ListN.{length, getD, length-map, List·getD-map}
+use lib.ListN.{length, length-map}
 use Rattle.taxa.specs.Sets.{Positive, multiplicity, multiplicityIn}
 use Rattle.taxa.proofs.Members.{∩-disjoint}
 use Rattle.record.specs.Bytes.{File}
-use Rattle.matrix.specs.declared.Column as matrix
 use Rattle.matrix.specs.declared.Checked.the-variants.{Taken}
 use Rattle.matrix.specs.Check.{checked}
-use Rattle.matrix.specs.Matrix.{multiplicitiesIn, columnsAt, LegalColumn, LegalColumns, none, one, matrixOf}
-use Rattle.matrix.proofs.Taken.{taken-length, taken-taxa, taken-columns, taken-legal}
+use Rattle.matrix.specs.Matrix.{multiplicitiesIn, columnsAt, columnIn, LegalColumn, matrixOf}
+use Rattle.matrix.proofs.Taken.{taken-length, taken-taxa, taken-columns, taken-legal, taken-column}
 use Rattle.matrix.proofs.Multiplying.{legal-positive, legal-merged}
 use Rattle.method.specs.Tree.{Sound, column}
 use Rattle.split.specs.Columns.{columnOf, matrixIn}
-use Rattle.split.proofs.Loading.{blank}
-
--- Each of a list of legal columns is legal.
-legal-at : {n : ℕ} {cs : List matrix.Column} → LegalColumns n cs → (c : ℕ) → c < length cs → LegalColumn n (getD cs c blank)
-legal-at none c b = absurd (omega arith)
-legal-at (one l ls) zero b = l
-legal-at (one l ls) (suc c) b = legal-at ls c (omega arith)
+use Rattle.split.proofs.Loading.{file-column}
 
 module _ {file : List ℕ} (f : File file) {n m : ℕ} (taken : Taken n m ≡ checked file) where
   pub taken-count : length (matrixIn file .columns) ≡ m
@@ -55,11 +48,8 @@ module _ {file : List ℕ} (f : File file) {n m : ℕ} (taken : Taken n m ≡ ch
     read-positive = subst Positive (sym read-multiplicities) (legal-positive (taken-legal f taken))
 
   -- What the check has seen of a column.
-  taken-column : {c : ℕ} → c < length (matrixIn file .columns) → (it : matrix.Column) × (column (matrixIn file .columns) c ≡ columnOf it) × LegalColumn (matrixIn file .taxa) it
-  unfolding column
-  taken-column {c} b =
-      let cs = matrixOf file .columns in
-      (getD cs c blank, List·getD-map columnOf cs c blank, legal-at (taken-legal f taken .columns-legal) c (omega (arith, length-map cs columnOf)))
+  seen : {c : ℕ} → c < length (matrixIn file .columns) → (column (matrixIn file .columns) c ≡ columnOf (columnIn file c)) × LegalColumn (matrixIn file .taxa) (columnIn file c)
+  seen {c} b = (file-column file b, taken-column f taken c (omega (arith, taken-count)))
 
   pub taken-sound : Sound (matrixIn file)
   taken-sound =
@@ -70,9 +60,9 @@ module _ {file : List ℕ} (f : File file) {n m : ℕ} (taken : Taken n m ≡ ch
         positive = legal-positive legal;
         merged = legal-merged legal;
         columns-few = omega (arith, taken-count, few-columns);
-        weighs = λ c b. let (it, is, l) = taken-column b in rw is (l .weighs);
-        light = λ c b. let (it, is, l) = taken-column b in rw is (omega (arith, l .weight-fits));
-        ones-in = λ c b. let (it, is, l) = taken-column b in rw is (l .ones-known);
-        zeros-in = λ c b. let (it, is, l) = taken-column b in rw is (l .zeros-known);
-        proper = λ c b. let (it, is, l) = taken-column b in rw is (∩-disjoint (l .apart));
+        weighs = λ c b. let (is, l) = seen b in rw is (l .weighs);
+        light = λ c b. let (is, l) = seen b in rw is (omega (arith, l .weight-fits));
+        ones-in = λ c b. let (is, l) = seen b in rw is (l .ones-known);
+        zeros-in = λ c b. let (is, l) = seen b in rw is (l .zeros-known);
+        proper = λ c b. let (is, l) = seen b in rw is (∩-disjoint (l .apart));
       }
