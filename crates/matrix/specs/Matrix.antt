@@ -1,5 +1,5 @@
--- A matrix, and the file that holds it: "one head, m columns, one end: 12 + 22m bytes" (document 01, "Records"), and 4 + n more "where some
--- rows are a merged set of specimens": a record of multiplicities "directly after the matrix head" (document 02, C-14).
+-- A matrix, and the file that holds it: "one head, m columns, one end: 12 + 22m bytes" (document 01, "Records"), and 4 + n more where
+-- "some rows are a merged set of specimens": a record of multiplicities "directly after the matrix head" (document 02, C-14).
 use mathlib.Core.Path.{_≡_}
 use mathlib.Core.Bool.{Bool, _&&_, cond}
 use mathlib.Core.List.{List, [], _∷_, _++_}
