@@ -155,7 +155,7 @@ table =
     ∷ refuses [] 1 0
     ∷ refuses (head 65 0 ++ end) 3 0
     ∷ takes (head 64 0 ++ end) 64 0
-    -- C-14's refusals: all are 1, one is 0, a length that is not n, and a second record.
+    -- C-14: taken; refused where all are 1, where one is 0, for a sum of 128, a length that is not n, and a second record.
     ∷ takes (head 3 0 ++ merged 1 1 2 ++ end) 3 0
     ∷ refuses (head 3 0 ++ merged 1 1 1 ++ end) 21 8
     ∷ refuses (head 3 0 ++ merged 1 0 2 ++ end) 21 8
