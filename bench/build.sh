@@ -1,7 +1,7 @@
 #!/usr/bin/env bash
-# Times whole builds of 64 taxa and 256 columns by the operation "build":
+# Times whole builds of 64 taxa and 256 columns by the operation "build", and says how long a workspace it needs:
 #   bench/build.sh                 against plain C of the same method, with the stack that the operation uses
-#   bench/build.sh compare OLD.a   against an earlier libprobe.a
+#   bench/build.sh compare OLD.a   against an earlier libprobe.a, with the bytes that are lent to each
 # Both are x86-64 code in one program, so on Arm both run under the toolchain's emulator. `rt staticlib probe` proves what is not yet proved.
 set -euo pipefail
 here=$(cd "$(dirname "$0")" && pwd -P)

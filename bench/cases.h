@@ -1,5 +1,6 @@
-// What the programs of bench/ share: ten kinds of matrices of up to 64 taxa and 256 columns, fixed, as lists and as a matrix file; processor time; and
-// the stack that an operation uses, found by painting a stack of its own. C and C++; whoever includes it defines _GNU_SOURCE before anything else.
+// What the programs of bench/ share: ten kinds of matrices of up to 64 taxa and 256 columns, and three of a tree of which more or less is known, fixed,
+// as lists and as a matrix file; processor time; and the stack that an operation uses, found by painting a stack of its own. C and C++; whoever includes
+// it defines _GNU_SOURCE before anything else.
 #ifndef CASES_H
 #define CASES_H
 
@@ -11,6 +12,7 @@
 
 enum { N = 64, M = 256, MOST_FILE_LENGTH = 12 + 22 * M + 4 + N, OUT_LENGTH = 20 + 16 * (N - 1) + 22 * M, STACK = 1 << 20 };
 enum { RANDOM, DENSE, SPARSE, INTERVAL, NESTED, NOISY, UNKNOWN, CLUSTERS, COMBS, PAIRS, KINDS, CASES = 2 * KINDS };
+enum { KNOWN_5 = KINDS, KNOWN_20, KNOWN_100, ALL_KINDS, ALL_CASES = 2 * ALL_KINDS };  // so many entries of a hundred are known
 static int taxa, columns;  // of the case made last
 static uint8_t file[MOST_FILE_LENGTH];
 static size_t file_length;
@@ -18,13 +20,15 @@ static uint16_t weights[M];
 static uint64_t ones0[M], zeros0[M];
 static int32_t ws[N * M];
 static uint64_t state;
+static unsigned leaf[N];  // where each taxon stands among the leaves of the tree: 8, 16 or 32 in a row are a clade
 
 // A case is a kind with light weights, all 1, then with heavy ones, 1 to 65535.
 static inline int kind_of(int k) { return k / 2; }
 static inline int is_heavy(int k) { return k % 2; }
 static inline const char *weight_name(int k) { return is_heavy(k) ? "heavy" : "light"; }
 static inline const char *kind_name(int k) {
-    static const char *const names[] = {"random", "dense", "sparse", "interval", "nested", "noisy", "unknown", "clusters", "combs", "pairs"};
+    static const char *const names[] = {"random", "dense", "sparse", "interval", "nested", "noisy", "unknown", "clusters", "combs", "pairs",
+                                        "known5", "known20", "known100"};
     return names[kind_of(k)];
 }
 
@@ -59,14 +63,21 @@ static inline int is_one(int kind, unsigned c, unsigned i, uint64_t x, unsigned 
     case NOISY: return (i >= c % (unsigned)(taxa - 1)) != (x < 5);
     case CLUSTERS: return (i / 8 == a / 8) != (x < 10);
     case COMBS: return (i % 2 == a % 2) != (x < 15);
-    default: return i == a || i == b;
+    case PAIRS: return i == a || i == b;
+    default: return (leaf[i] >> (3 + b % 3) == leaf[a] >> (3 + b % 3)) != (x < 5);
     }
 }
 
 static inline int is_known(int kind, int one) {
     if (kind == NESTED) return 1;
     uint64_t x = rnd() % 100;
-    return kind == SPARSE ? x < 40 || one : x < (kind == UNKNOWN ? 20 : 95);
+    switch (kind) {
+    case SPARSE: return x < 40 || one;
+    case UNKNOWN: case KNOWN_20: return x < 20;
+    case KNOWN_5: return x < 5;
+    case KNOWN_100: return 1;
+    default: return x < 95;
+    }
 }
 
 static inline void column(int kind, int c) {
@@ -81,11 +92,21 @@ static inline void column(int kind, int c) {
     }
 }
 
+// A tree of n taxa: they are shuffled.
+static inline void shuffle_leaves(unsigned n) {
+    for (unsigned i = 0; i < n; i++) {
+        unsigned j = (unsigned)(rnd() % (i + 1));
+        leaf[i] = leaf[j];
+        leaf[j] = i;
+    }
+}
+
 // Case k with n taxa and m columns into the lists and the file.
 static inline void make_case(int k, int n, int m) {
     taxa = n;
     columns = m;
     state = 88172645463325252ull + (uint64_t)kind_of(k);
+    if (kind_of(k) >= KINDS) shuffle_leaves((unsigned)n);
     uint8_t *at = number(number(head(file, 4, 1), (unsigned)n, 2), (unsigned)m, 2);
     for (int c = 0; c < m; c++) {
         uint64_t heavy = 1 + rnd() % 65535;  // drawn for light weights too, so that both have the same columns

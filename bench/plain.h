@@ -1,4 +1,5 @@
-// The method of crate `search` as plain C, for comparison: the same flows, hops, order and stops.
+// The method of crate `search` as plain C, for comparison: the same flows, hops, order and stops. Its workspace has a number for every pair of taxon and
+// column, as the crate's had before document 02's C-13.
 #ifndef PLAIN_H
 #define PLAIN_H
 
@@ -8,17 +9,22 @@
 static uint64_t joined[M];
 static uint32_t limits[M], used[M];
 
+// Where each column's places in the workspace start, and how many all take.
+static uint16_t offsets[M + 1];
+
 // How each taxon was reached: from which, through which column, at which turn, and the least that a hop of the way carries.
 static struct {
     uint32_t from, via, turn, width;
 } tree[N];
 
-// The weights, and a flow: what taxon i sends through column c, less what it takes, is ws[c * n + i].
+// The weights, and a flow: what taxon i sends through column c, less what it takes, is *at(f, c, i).
 typedef struct {
     const uint16_t *weights;
-    int n, m;
+    int m;
     int32_t *ws;
 } Flow;
+
+static inline int32_t *at(Flow f, unsigned c, unsigned i) { return f.ws + offsets[c] + size_of(joined[c] & (single(i) - 1)); }
 
 // The size of a flow, and the taxa reached from its sources.
 typedef struct {
@@ -39,48 +45,54 @@ static void network_of(Flow f, const uint64_t *ones, const uint64_t *zeros, uint
         joined[c] = z ? ones[c] & group : 0;
         limits[c] = f.weights[c] * z;
     }
+    uint16_t sum = 0;
+    for (int c = 0; c < f.m; c++) {
+        offsets[c] = sum;
+        sum = (uint16_t)(sum + size_of(joined[c]));
+    }
+    offsets[f.m] = sum;
 }
 
 // Of the taxa of x, one whose hop through column c leads wherever a hop of any of them leads.
-static unsigned sender(Flow f, int c, uint64_t x) {
-    const int32_t *sent = f.ws + c * f.n;
+static unsigned sender(Flow f, unsigned c, uint64_t x) {
     unsigned found = NOBODY;
     for (; x; x = rest(x)) {
         unsigned i = low(x);
-        if (sent[i] == f.weights[c]) continue;
-        if (sent[i] < 0 || used[c] < limits[c]) return i;
+        int32_t sent = *at(f, c, i);
+        if (sent == f.weights[c]) continue;
+        if (sent < 0 || used[c] < limits[c]) return i;
         found = i;
     }
     return found;
 }
 
 // The taxa that a hop from i through column c reaches join.
-static uint64_t through(Flow f, uint64_t met, unsigned i, int c) {
-    const int32_t *sent = f.ws + c * f.n;
-    int32_t w = f.weights[c];
-    uint32_t sends = (uint32_t)(w - sent[i]), room = most(above(-sent[i]), limits[c] - used[c]), turn = size_of(met);
+static uint64_t through(Flow f, uint64_t met, unsigned i, unsigned c) {
+    int32_t w = f.weights[c], from = *at(f, c, i);
+    uint32_t sends = least((uint32_t)(w - from), tree[i].width), room = most(above(-from), limits[c] - used[c]), turn = tree[i].turn + 1;
     uint64_t all = met;
     for (uint64_t left = joined[c] & ~met; left; left = rest(left)) {
         unsigned j = low(left);
-        uint32_t carries = least(least(sends, (uint32_t)(w + sent[j])), most(room, above(sent[j])));
+        int32_t to = *at(f, c, j);
+        uint32_t carries = least(least(sends, (uint32_t)(w + to)), most(room, above(to)));
         if (!carries) continue;
         tree[j].from = i;
-        tree[j].via = (uint32_t)c;
+        tree[j].via = c;
         tree[j].turn = turn;
-        tree[j].width = least(carries, tree[i].width);
+        tree[j].width = carries;
         all |= single(j);
     }
     return all;
 }
 
-static uint64_t pass(Flow f, uint64_t met, int c) {
+static uint64_t pass(Flow f, uint64_t met, unsigned c) {
     if (!(joined[c] & ~met) || !(joined[c] & met)) return met;
     unsigned i = sender(f, c, joined[c] & met);
     return i == NOBODY ? met : through(f, met, i, c);
 }
 
-static uint64_t sweep(Flow f, uint64_t met, uint64_t goal, int first) {
-    for (int c = first; c < f.m && !(goal & met); c++) met = pass(f, met, c);
+static uint64_t sweep(Flow f, uint64_t met, uint64_t goal, unsigned first) {
+    for (unsigned c = first; c < (unsigned)f.m && !(goal & met); c++) met = pass(f, met, c);
     return met;
 }
 
@@ -92,7 +104,7 @@ static void plant(uint64_t sources) {
 }
 
 // The taxa that hops reach from the sources; some of them, once one of the goal is among them.
-static uint64_t reach(Flow f, uint64_t sources, uint64_t goal, int first) {
+static uint64_t reach(Flow f, uint64_t sources, uint64_t goal, unsigned first) {
     plant(sources);
     uint64_t met = 0, next = sweep(f, sources, goal, first);
     while (met < next) {
@@ -104,16 +116,16 @@ static uint64_t reach(Flow f, uint64_t sources, uint64_t goal, int first) {
 
 // d more from taxon i to taxon j through column c.
 static void step(Flow f, unsigned c, unsigned i, unsigned j, uint32_t d) {
-    int32_t *sent = f.ws + c * (unsigned)f.n;
-    uint32_t before = above(sent[i]) + above(sent[j]);
-    sent[i] += (int32_t)d;
-    sent[j] -= (int32_t)d;
-    used[c] += above(sent[i]) + above(sent[j]) - before;
+    int32_t *from = at(f, c, i), *to = at(f, c, j);
+    uint32_t before = above(*from) + above(*to);
+    *from += (int32_t)d;
+    *to -= (int32_t)d;
+    used[c] += above(*from) + above(*to) - before;
 }
 
 // If hops reach t, what the path to it carries is pushed along it. The first sweep starts where the last path came to t.
 static Cut advance(Flow f, uint64_t sources, unsigned t, uint32_t size) {
-    uint64_t met = reach(f, sources, single(t), (int)tree[t].via);
+    uint64_t met = reach(f, sources, single(t), tree[t].via);
     if (!(met & single(t))) return (Cut){size, met};
     uint32_t d = tree[t].width;
     for (unsigned j = t; tree[j].turn; j = tree[j].from) step(f, tree[j].via, tree[j].from, j, d);
@@ -121,7 +133,7 @@ static Cut advance(Flow f, uint64_t sources, unsigned t, uint32_t size) {
 }
 
 static void clear(Flow f) {
-    memset(f.ws, 0, sizeof *f.ws * (size_t)(f.n * f.m));
+    memset(f.ws, 0, sizeof *f.ws * offsets[f.m]);
     memset(used, 0, sizeof *used * (size_t)f.m);
 }
 
@@ -170,13 +182,13 @@ static unsigned cheapest(Flow f, uint64_t group, unsigned s) {
     return other;
 }
 
-static Split plain(const uint16_t *weights, const uint64_t *ones, const uint64_t *zeros, uint64_t group, int n, int m, int32_t *ws) {
-    Flow f = {weights, n, m, ws};
+static Split plain(const uint16_t *weights, const uint64_t *ones, const uint64_t *zeros, uint64_t group, int m, int32_t *ws) {
+    Flow f = {weights, m, ws};
     unsigned s = low(group);
     network_of(f, ones, zeros, group);
     clear(f);
     // No path came before: the first sweep is left out, and whole ones do.
-    uint64_t met = reach(f, single(s), 0, m);
+    uint64_t met = reach(f, single(s), 0, (unsigned)m);
     if (met != group) return (Split){0, met, low(group & ~met)};
     unsigned t = cheapest(f, group, s);
     Cut cut = largest(f, single(s), t, UNBOUNDED);

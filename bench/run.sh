@@ -9,10 +9,12 @@ cd "$(dirname "$here")"
 quietly rt check search
 copy_crates
 
-alone port search <<'RT'
-ghost use Prim.Native.Nat.{_*_, _≤_, _<_};
+alone port "method search" <<'RT'
+ghost use Prim.Native.Nat.{_≤_, _<_};
 ghost use lib.ListN.{length};
-ghost use Rattle.search.specs.Search.{Given};
+ghost use Rattle.method.specs.Flow.{arcCount};
+ghost use Rattle.search.specs.Search.{colsOf, Given};
+ghost use Rattle.search.specs.Network.{Lent};
 
 fn wide(x: u32) -> u64 {
     x as u64
@@ -25,14 +27,29 @@ fn put(out: &mut [u64], at: usize, x: u64)
 }
 
 #[no_mangle]
-pub extern "C" fn search_group(weights: &[u16], planes: &[u64; 72], ones: &[u64], zeros: &[u64], group: u64, n: usize, m: usize, ws: &mut [i32], out: &mut [u64])
-    requires { ⌜ Given (now weights) (now planes) (now ones) (now zeros) group n m × (n * m ≤ length (now ws)) × (3 ≤ length (now out)) ⌝ }
+pub extern "C" fn search_group(
+    weights: &[u16],
+    planes: &[u64; 72],
+    ones: &[u64],
+    zeros: &[u64],
+    group: u64,
+    n: usize,
+    m: usize,
+    ws: &mut [i32],
+    joined: &mut [u64; 256],
+    limits: &mut [u32; 256],
+    offsets: &mut [u16; 257],
+    used: &mut [u32; 256],
+    tree: &mut [u32; 256],
+    out: &mut [u64],
+)
+    requires { ⌜
+        Given (now weights) (now planes) (now ones) (now zeros) group n m
+        × (arcCount m (colsOf (now weights) (now ones) (now zeros)) group ≤ length (now ws))
+        × Lent (now joined) (now limits) (now offsets) (now used) (now tree)
+        × (3 ≤ length (now out)) ⌝ }
 {
-    let mut joined = [0u64; 256];
-    let mut limits = [0u32; 256];
-    let mut used = [0u32; 256];
-    let mut tree = [0u32; 256];
-    let found = search::divide(weights, planes, ones, zeros, group, n, m, ws, &mut joined, &mut limits, &mut used, &mut tree);
+    let found = search::divide(weights, planes, ones, zeros, group, n, m, ws, joined, limits, offsets, used, tree);
     put(out, 0, wide(found.cost));
     put(out, 1, found.side);
     put(out, 2, found.other as u64);

@@ -15,6 +15,18 @@ static inline size_t build_with(__typeof__(probe_build) *probe, uint8_t *out) {
     return result[0] == 0 ? (size_t)result[2] : 0;
 }
 
+// How many numbers the workspace must have: with one fewer the refusal is 9, with so many it is 10, since no output is lent.
+static inline size_t workspace_needed(__typeof__(probe_build) *probe) {
+    size_t least = 0, enough = N * M;
+    while (least < enough) {
+        uint64_t result[5];
+        size_t middle = (least + enough) / 2;
+        probe(file, file_length, ws, middle, file, 0, result, 5);
+        if (result[0] == 9) least = middle + 1; else enough = middle;
+    }
+    return enough;
+}
+
 static inline size_t operation(uint8_t *out) { return build_with(probe_build, out); }
 
 // One turn of each; false where the answers differ.

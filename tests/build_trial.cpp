@@ -28,29 +28,38 @@ void compare(Tally& tally, gen::Random& random, const BuildCase& given) {
     if (!answered || !result.holds({refusal.number, refusal.place, expected.file.size(), expected.total, 0}))
         tally.differ("the numbers of the build" + which, given.file);
     if (!out.holds(expected.file)) tally.differ("the output" + which, given.file);
-    std::size_t cleared = 0;
-    if (!refusal.refused()) {
-        const oracle::CheckOutcome size = oracle::check(given.file);
-        cleared = size.n * size.m;
-    }
-    if (!workspace.holds(std::vector<std::int32_t>(cleared, 0))) tally.differ("the workspace" + which, given.file);
+    if (!workspace.holds(std::vector<std::int32_t>(expected.cleared, 0))) tally.differ("the workspace" + which, given.file);
     tally.agreed(refusal.number, given.file);
 }
 
-// Buffers just long enough, and each of them one too short.
-void edge_cases(Tally& tally, gen::Random& random, const Bytes& file) {
-    const oracle::CheckOutcome size = oracle::check(file);
-    if (size.refusal.refused()) {
-        compare(tally, random, {file, 0, 0});
-        return;
-    }
-    const std::size_t workspace = size.n * size.m;
-    const std::size_t room = 20 + 16 * (size.n - 1) + 22 * size.m;
-    compare(tally, random, {file, workspace, room});
+// Buffers just long enough, a workspace that is longer, to the number for every pair and past it, and each of them one too short.
+void edge_cases(Tally& tally, gen::Random& random, const oracle::Matrix& matrix) {
+    const Bytes file = oracle::matrix_file(matrix);
+    const std::size_t workspace = oracle::one_entries(matrix), pairs = matrix.n * matrix.columns.size();
+    const std::size_t room = 20 + 16 * (matrix.n - 1) + 22 * matrix.columns.size();
+    for (std::size_t length : {workspace, workspace + 1, pairs, pairs + 9}) compare(tally, random, {file, length, room});
     compare(tally, random, {file, workspace, room - 1});
     if (workspace == 0) return;
     compare(tally, random, {file, workspace - 1, room});
     compare(tally, random, {file, workspace - 1, room - 1});
+    compare(tally, random, {file, 0, room});
+}
+
+void specimen_cases(Tally& tally, gen::Random& random) {
+    for (const Specimen& specimen : specimens()) {
+        if (specimen.refusal.refused()) compare(tally, random, {specimen.file, 0, 0});
+        else edge_cases(tally, random, oracle::read_matrix(specimen.file));
+    }
+}
+
+// Matrices without a 1 need no workspace, those of 1s alone the most there can be.
+void extreme_cases(Tally& tally, gen::Random& random) {
+    for (unsigned n : {1u, 2u, 7u, 64u}) {
+        oracle::Matrix matrix{n, {}, std::vector<oracle::Column>(256, {1, oracle::all_taxa(n), 0})};
+        edge_cases(tally, random, matrix);
+        for (oracle::Column& column : matrix.columns) column = {1, 0, oracle::all_taxa(n) & random.bits()};
+        edge_cases(tally, random, matrix);
+    }
 }
 
 }  // namespace
@@ -59,10 +68,11 @@ int main(int argc, char** argv) {
     const TrialWords words = trial_words(argc, argv, 4000);
     Tally tally("build", words.folder);
     gen::Random random(5);
-    for (const Specimen& specimen : specimens()) edge_cases(tally, random, specimen.file);
+    specimen_cases(tally, random);
+    extreme_cases(tally, random);
     // The largest costs, where numbers of 32 bits are the nearest to running over.
-    for (unsigned n : {2u, 3u, 4u, 8u, 12u}) edge_cases(tally, random, oracle::matrix_file(gen::heaviest_matrix(random, n)));
-    for (int k = 0; k < 200; ++k) edge_cases(tally, random, oracle::matrix_file(gen::random_matrix(random)));
+    for (unsigned n : {2u, 3u, 4u, 8u, 12u}) edge_cases(tally, random, gen::heaviest_matrix(random, n));
+    for (int k = 0; k < 200; ++k) edge_cases(tally, random, gen::random_matrix(random));
     for (unsigned long k = 0; k < words.count; ++k) compare(tally, random, gen::build_case(random));
     tally.finish({0, 1, 2, 3, 4, 5, 6, 7, 8, 9, 10, 21});
     return 0;

@@ -45,6 +45,20 @@ void specimen_numbers(Tally& tally) {
         tally.differ("the score of specimen 2 with multiplicities", merged);
 }
 
+// How long a workspace the first specimens and those of document 02's C-13 need, by hand: one number less is refused.
+void specimen_workspaces(Tally& tally) {
+    struct {
+        std::size_t specimen, needed;
+    } const cases[] = {{0, 6}, {1, 4}, {3, 5}, {4, 3}, {5, 0}, {6, 0}, {merged_second, 4}, {no_one, 0}, {one_one, 1}};
+    const std::size_t large = 1 << 16;
+    for (const auto& [specimen, needed] : cases) {
+        const Bytes file = specimens()[specimen].file;
+        const bool taken = !oracle::build(file, needed, large).refusal.refused();
+        const bool refused = needed == 0 || oracle::build(file, needed - 1, large).refusal == oracle::Refusal{9, 0};
+        if (!taken || !refused) tally.differ("the workspace that a specimen needs", file);
+    }
+}
+
 // A matrix without multiplicities in place of one with them: each taxon stands there as often as its multiplicity says, in the same
 // order, and a column of their own holds these together, at a weight that no division pays.
 class Unmerged {
@@ -143,6 +157,7 @@ int main(int argc, char** argv) {
     gen::Random random(2);
     specimen_cases(tally);
     specimen_numbers(tally);
+    specimen_workspaces(tally);
     order_case(tally);
     for (unsigned long k = 0; k < words.count; ++k) {
         division_case(tally, random);

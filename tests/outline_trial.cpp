@@ -70,6 +70,8 @@ void largest_cases(OutlineTrial& trial, gen::Random& random) {
         for (gen::Weights weights : {gen::Weights::one, gen::Weights::heavy})
             for (unsigned known : {100u, 50u, 8u})
                 trial.compare(oracle::matrix_file(gen::random_matrix(random, 64, 256, {shape, weights, known, known == 50})));
+    // Every entry a 1: the longest workspace that any matrix needs.
+    trial.compare(oracle::matrix_file({64, {}, std::vector<oracle::Column>(256, {1, oracle::all_taxa(64), 0})}));
 }
 
 // Column c has the taxa from c on, so that a split takes one taxon off and the next has all the others; turned entries make flows run.

@@ -1,7 +1,8 @@
 /* What the crate `probe` exports for the trials alone: each operation as it is, the numbers that it
  * returns put into `result` from its start, 0 where an operation has fewer than five. The answer is
  * false, and no number is put, where `result` is shorter than said here. A flip list is three lists,
- * columns, raised and lowered sets, or one list of entries.
+ * columns, raised and lowered sets, or one list of entries. A workspace has a number for each 1 of the
+ * matrix, or more.
  */
 #ifndef PROBE_H
 #define PROBE_H

@@ -73,5 +73,7 @@ std::vector<Specimen> specimens() {
         {"C-14, twice", between({3, 0, 5, 0, 1, 1, 2, 3, 0, 5, 0, 1, 1, 2}), {2, 15}, "refused 2 at 15\n"},
         {"C-14, ones {3} in the second column", file_of(3, {{1, 0x3, 0x4}, {1, 0x8, 0x1}}, {1, 1, 2}), {6, 37},
          "refused 6 at 37\n"},
+        {"C-13, no 1", file_of(3, {{1, 0x0, 0x7}, {2, 0x0, 0x0}}), {}, "taxa 3 columns 2 total 0\ngroup 7 cost 0\n"},
+        {"C-13, one taxon with a 1", file_of(1, {{1, 0x1, 0x0}}), {}, "taxa 1 columns 1 total 0\n"},
     };
 }

@@ -25,28 +25,45 @@ void compare(Tally& tally, gen::Random& random, const SplitCase& given) {
     const oracle::Division& division = expected.division;
     if (!answered || !result.holds({refusal.number, refusal.place, division.cost, division.side, division.t}))
         tally.differ("the numbers of the split" + which, given.file);
-    std::size_t cleared = 0;
-    if (!refusal.refused()) {
-        const oracle::CheckOutcome size = oracle::check(given.file);
-        cleared = size.n * size.m;
-    }
-    if (!workspace.holds(std::vector<std::int32_t>(cleared, 0))) tally.differ("the workspace" + which, given.file);
+    if (!workspace.holds(std::vector<std::int32_t>(expected.cleared, 0))) tally.differ("the workspace" + which, given.file);
     tally.agreed(refusal.number, given.file);
 }
 
-// Every group of specimens 1 and 2, the second with multiplicities, lawful or not, with the workspace just long enough and
-// one too short.
+// The workspace just long enough, one too short, empty, and longer, to the number for every pair and past it.
+void edge_cases(Tally& tally, gen::Random& random, const oracle::Matrix& matrix, oracle::TaxonSet group) {
+    const oracle::Bytes file = oracle::matrix_file(matrix);
+    const std::size_t workspace = oracle::one_entries(matrix), pairs = matrix.n * matrix.columns.size();
+    for (std::size_t length : {std::size_t{0}, workspace, workspace + 1, pairs, pairs + 9})
+        compare(tally, random, {file, group, length});
+    if (workspace > 0) compare(tally, random, {file, group, workspace - 1});
+}
+
+// Every group of specimens 1 and 2, the second with multiplicities, lawful or not; the first has 6 entries that are 1, the second 4.
 void specimen_cases(Tally& tally, gen::Random& random) {
-    for (oracle::TaxonSet group = 0; group < 32; ++group)
-        for (std::size_t workspace : {11u, 12u, 13u}) compare(tally, random, {specimens()[0].file, group, workspace});
-    for (oracle::TaxonSet group = 0; group < 16; ++group)
-        for (std::size_t workspace : {5u, 6u, 7u}) compare(tally, random, {specimens()[merged_second].file, group, workspace});
+    for (std::size_t which : {std::size_t{0}, merged_second})
+        for (oracle::TaxonSet group = 0; group < 32; ++group)
+            edge_cases(tally, random, oracle::read_matrix(specimens()[which].file), group);
+    for (const Specimen& specimen : specimens()) {
+        if (specimen.refusal.refused()) continue;
+        const oracle::Matrix matrix = oracle::read_matrix(specimen.file);
+        edge_cases(tally, random, matrix, oracle::all_taxa(matrix.n));
+    }
+}
+
+// Matrices without a 1 need no workspace, those of 1s alone the most there can be; and the count is of all taxa, not of the group's.
+void extreme_cases(Tally& tally, gen::Random& random) {
+    for (unsigned n : {1u, 2u, 7u, 64u}) {
+        oracle::Matrix matrix{n, {}, std::vector<oracle::Column>(256, {1, oracle::all_taxa(n), 0})};
+        edge_cases(tally, random, matrix, oracle::all_taxa(n));
+        edge_cases(tally, random, matrix, 3);
+        for (oracle::Column& column : matrix.columns) column = {1, 0, oracle::all_taxa(n) & random.bits()};
+        edge_cases(tally, random, matrix, oracle::all_taxa(n));
+    }
 }
 
 // The largest costs, where numbers of 32 bits are the nearest to running over.
 void heaviest_cases(Tally& tally, gen::Random& random) {
-    for (unsigned n : {2u, 3u, 4u, 8u, 12u})
-        compare(tally, random, {oracle::matrix_file(gen::heaviest_matrix(random, n)), oracle::all_taxa(n), n * 256});
+    for (unsigned n : {2u, 3u, 4u, 8u, 12u}) edge_cases(tally, random, gen::heaviest_matrix(random, n), oracle::all_taxa(n));
 }
 
 }  // namespace
@@ -56,6 +73,7 @@ int main(int argc, char** argv) {
     Tally tally("split", words.folder);
     gen::Random random(4);
     specimen_cases(tally, random);
+    extreme_cases(tally, random);
     heaviest_cases(tally, random);
     for (unsigned long k = 0; k < words.count; ++k) compare(tally, random, gen::split_case(random));
     tally.finish({0, 1, 2, 3, 4, 5, 6, 7, 8, 9, 11, 21});

@@ -26,7 +26,10 @@ Bytes matrix_file_of(Random& random, const Matrix& matrix) {
     return random.chance(5) ? unlawful_matrix(random, matrix) : maybe_damaged(random, oracle::matrix_file(matrix));
 }
 
-std::size_t workspace_of(const Matrix& matrix) { return matrix.n * matrix.columns.size(); }
+// Around the count of 1-entries; now and then a number for every pair of taxon and column, of which most stay as they were.
+std::size_t workspace_for(Random& random, const Matrix& matrix) {
+    return random.chance(10) ? matrix.n * matrix.columns.size() : around(random, oracle::one_entries(matrix));
+}
 
 // The answer of a build, or one of no matrix.
 Answer some_answer(Random& random) {
@@ -42,7 +45,7 @@ SplitCase split_case(Random& random) {
     made.group = random.bits() & (random.chance(30) ? ~oracle::TaxonSet{0} : random.bits());
     if (random.chance(95)) made.group &= oracle::all_taxa(matrix.n);
     if (random.chance(30) || (oracle::size(made.group) < 2 && random.chance(80))) made.group = oracle::all_taxa(matrix.n);
-    made.workspace = around(random, workspace_of(matrix));
+    made.workspace = workspace_for(random, matrix);
     return made;
 }
 
@@ -50,7 +53,7 @@ BuildCase build_case(Random& random) {
     const Matrix matrix = random_matrix(random);
     BuildCase made;
     made.file = matrix_file_of(random, matrix);
-    made.workspace = around(random, workspace_of(matrix));
+    made.workspace = workspace_for(random, matrix);
     made.room = around(random, 20 + 16 * (matrix.n - 1) + 22 * matrix.columns.size());
     return made;
 }

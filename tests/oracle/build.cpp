@@ -59,17 +59,18 @@ Answer answer_of(const Matrix& matrix) {
     return put_together(matrix, groups, flips);
 }
 
-// "The file's refusals come first, then 11, 9, 10."
+// "The file's refusals come first, then 11, 9, 10." "9 now means shorter than the count of 1-entries, in its old place."
 BuildOutcome build(const Bytes& file, std::size_t workspace, std::size_t room) {
     BuildOutcome outcome;
     try {
         const Matrix matrix = read_matrix(file);
         const std::size_t m = matrix.columns.size();
-        if (workspace < matrix.n * m) refuse(9, 0);
+        if (workspace < one_entries(matrix)) refuse(9, 0);
         if (room < 20 + 16 * (matrix.n - 1) + 22 * m) refuse(10, 0);
         const Answer answer = answer_of(matrix);
         outcome.total = answer.value.total;
         outcome.file = answer_file(answer);
+        outcome.cleared = one_entries(matrix);
     } catch (const Refusal& refusal) {
         outcome.refusal = refusal;
     }

@@ -15,7 +15,8 @@ Answer answer_of(const Matrix& matrix);
 struct BuildOutcome {
     Refusal refusal;
     std::uint64_t total = 0;
-    Bytes file;  // the first bytes of the lent output; the others stay as they were
+    Bytes file;               // the first bytes of the lent output; the others stay as they were
+    std::size_t cleared = 0;  // so many numbers of the workspace are 0; the others stay as they were
 };
 
 // The operation: build. `workspace` counts lent numbers, `room` the bytes of the lent output.

@@ -50,6 +50,12 @@ std::uint64_t mass(const Matrix& matrix, TaxonSet set) {
     return sum;
 }
 
+std::size_t one_entries(const Matrix& matrix) {
+    std::size_t count = 0;
+    for (const Column& column : matrix.columns) count += members(column.ones).size();
+    return count;
+}
+
 Matrix read_matrix(const Bytes& file) {
     RecordReader reader(file);
     Matrix matrix;

@@ -1,6 +1,7 @@
 // A matrix file and the check of it.
 #pragma once
 
+#include <cstddef>
 #include <cstdint>
 #include <vector>
 
@@ -24,6 +25,9 @@ struct Matrix {
 
 // How many specimens these taxa stand for: the sum of their multiplicities.
 std::uint64_t mass(const Matrix& matrix, TaxonSet set);
+
+// How many entries are 1. Build and split need a workspace of so many numbers (document 02's C-13).
+std::size_t one_entries(const Matrix& matrix);
 
 // Reads a matrix file; throws the Refusal that document 01 (1 to 8) or document 02's C-14 (21) names.
 Matrix read_matrix(const Bytes& file);

@@ -58,14 +58,15 @@ GroupSplit split_group(Matrix& matrix, TaxonSet group) {
     return split;
 }
 
-// "The file's refusals come first, then 11, 9, 10."
+// "The file's refusals come first, then 11, 9, 10." "9 now means shorter than the count of 1-entries", of the whole matrix.
 SplitOutcome split(const Bytes& file, TaxonSet group, std::size_t workspace) {
     SplitOutcome outcome;
     try {
         const Matrix matrix = read_matrix(file);
         if (size(group) < 2 || !within(group, all_taxa(matrix.n))) refuse(11, 0);
-        if (workspace < matrix.n * matrix.columns.size()) refuse(9, 0);
+        if (workspace < one_entries(matrix)) refuse(9, 0);
         outcome.division = least_division(matrix, group);
+        outcome.cleared = one_entries(matrix);
     } catch (const Refusal& refusal) {
         outcome.refusal = refusal;
     }

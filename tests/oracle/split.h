@@ -22,6 +22,7 @@ GroupSplit split_group(Matrix& matrix, TaxonSet group);
 struct SplitOutcome {
     Refusal refusal;
     Division division;
+    std::size_t cleared = 0;  // so many numbers of the workspace are 0; the others stay as they were
 };
 
 // The operation: split. `workspace` is the number of lent numbers.

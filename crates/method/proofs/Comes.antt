@@ -164,7 +164,7 @@ module _ (k : ℕ) (μ : ℕ → ℕ) (m : ℕ) where
         ⊎-elim (λ e. absurd (f .changed (e i h))) (λ q. settled-same at-turn q) (flip-part k μ S (side k μ m cols S) inA (cols c) (part-inside fits d) on-side)
 
   -- In each group a column is as in the file, or settled: it has no 0 or no 1 there.
-  comes-kept : Positive μ → {cols cols′ : ℕ → Column} {S S′ : ℕ} {file : Column} → S < 2 ^ k → Comes k μ m cols S cols′ S′ → (c : ℕ) → Kept file S (cols c) → Kept file S′ (cols′ c)
+  pub comes-kept : Positive μ → {cols cols′ : ℕ → Column} {S S′ : ℕ} {file : Column} → S < 2 ^ k → Comes k μ m cols S cols′ S′ → (c : ℕ) → Kept file S (cols c) → Kept file S′ (cols′ c)
   comes-kept pos fits here c q = q
   comes-kept pos fits (below d p) c q = comes-kept pos (part-fits fits d) p c (kept-turn fits d pos c q)
 

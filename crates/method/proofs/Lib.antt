@@ -28,6 +28,7 @@ pub mod Shape
 pub mod Order
 pub mod Components
 pub mod Comes
+pub mod Arcs
 -- Clades, trees that fit, and the answer.
 pub mod Filling
 pub mod Fitting

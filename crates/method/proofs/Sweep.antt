@@ -54,8 +54,8 @@ module _ (n m : ℕ) (cap : ℕ → ℕ → ℕ) (thr : ℕ → ℕ) (out inn : 
     pub spent : (x : ℕ) → R x ≡ true → X x ≡ false → 0 < rooms n m cap thr out inn (via x) → Given (via x) ⊎ ((via x ≡ c) × (from x ≡ i))
 
 module _ {n m : ℕ} {cap : ℕ → ℕ → ℕ} {thr : ℕ → ℕ} {out inn : ℕ → ℕ → ℕ} {X : ℕ → Bool} {R : ℕ → Bool} {from via turn width : ℕ → ℕ} {i c : ℕ} where
-  pub send-start : {N : ℕ} → Sweeping n m cap thr out inn X R from via turn width N → R i ≡ true → Sending n m cap thr out inn X R from via turn width i c N N
-  send-start g h = record { tree = g .tree; held = h; turn-i = g .turns i h; above = omega arith; turns = g .turns; spent = λ x r ne p. inl (g .spent x r ne p) }
+  pub send-start : {T N : ℕ} → Sweeping n m cap thr out inn X R from via turn width N → R i ≡ true → turn i < T → T ≤ N → Sending n m cap thr out inn X R from via turn width i c T N
+  send-start g h later most = record { tree = g .tree; held = h; turn-i = later; above = most; turns = g .turns; spent = λ x r ne p. inl (g .spent x r ne p) }
 
   -- Once all that the hops of i lead to have joined.
   pub send-end : {T N : ℕ} → Sending n m cap thr out inn X R from via turn width i c T N → ((j : ℕ) → j < n → 0 < carries n m cap thr out inn c i j → R j ≡ true)

@@ -6,7 +6,7 @@ use mathlib.Core.Bool.{Bool, cond}
 use mathlib.Core.Logic.{_≢_, _↔_, _⊎_}
 use lib.Dec.{ltb}
 use Rattle.taxa.specs.Sum.{sum, inside, outside}
-use Rattle.taxa.specs.Sets.{has, _∈_, _⊆_, _∩_, mass, count, low}
+use Rattle.taxa.specs.Sets.{has, _∈_, _⊆_, _∩_, mass, count, sizes, low}
 use Rattle.method.specs.Split.{Column, parted, divisionCost, side, splitCost}
 
 -- ---- the network of a group
@@ -15,6 +15,10 @@ module _ (k S : ℕ) where
   -- "arcs between a taxon of S and its columns, the participating ones with a 1 there": the taxa that have an arc to a column.
   unfoldable pub joined : Column → ℕ
   joined c = cond (ltb 0 (count k (c .zeros ∩ S))) (c .ones ∩ S) 0
+
+-- How many arcs of that kind there are in S: a flow takes a number for each (document 02, C-13).
+unfoldable pub arcCount : ℕ → (ℕ → Column) → ℕ → ℕ
+arcCount m cols S = sizes m (λ c. joined 64 S (cols c))
 
 module _ (k : ℕ) (μ : ℕ → ℕ) (S : ℕ) where
   -- They "carry at most w", and an entry's arc "weighs the column's weight times the taxon's multiplicity"; "every other pair of taxon and column

@@ -7,7 +7,7 @@ use Prim.Native.Nat.{ℕ, zero, suc, _+_, _*_, _^_, _≤_, _<_}
 use lib.Dec.{ltb, eqb}
 use lib.ListN.{length, getD}
 use Rattle.taxa.specs.Sum.{sum}
-use Rattle.taxa.specs.Sets.{_∈_, _∉_, _⊆_, Disjoint, _∩_, _∖_, mass, Positive, multiplicity, count, low, all}
+use Rattle.taxa.specs.Sets.{_∈_, _∉_, _⊆_, Disjoint, _∩_, _∖_, mass, Positive, multiplicity, count, sizes, low, all}
 use Rattle.taxa.specs.Groups.{NestedOrDisjoint, Before}
 use Rattle.method.specs.Split.{Column, raise, lower, Linked, splitCost, after, splitParts}
 
@@ -126,6 +126,10 @@ pub record Answer : Type 0 where
 -- Column c of a list; past its end, one of unknowns.
 unfoldable pub column : List Column → ℕ → Column
 column cs c = getD cs c (record { weight = 0; ones = 0; zeros = 0 })
+
+-- "one number for each 1 in the matrix" (document 02, C-13): how many 1-entries there are.
+unfoldable pub oneEntries : Matrix → ℕ
+oneEntries M = sizes (length (M .columns)) (λ c. column (M .columns) c .ones)
 
 -- The answer to a matrix.
 unfoldable pub answer : Matrix → Answer

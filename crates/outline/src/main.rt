@@ -25,7 +25,7 @@ fn answer_room() -> [u8; 6660]
     [0; 6660]
 }
 
-// Room for 64 taxa times 256 columns.
+// A number for each 1 of any matrix: 64 taxa times 256 columns have no more.
 fn workspace_room() -> [i32; 16384]
     ensures { λ r. ⌜ length r ≡ 16384 ⌝ }
 {

@@ -3,7 +3,7 @@
 use mathlib.Core.Path.{_≡_, refl, sym, ap, _∙_, subst}
 use mathlib.Core.Bool.{Bool, true, false, cond}
 use mathlib.Core.List.{List, map}
-use Prim.Native.Nat.{ℕ, zero, suc, _*_, _≤_}
+use Prim.Native.Nat.{ℕ, zero, suc, _≤_}
 use native.Mathlib.Omega.{arith}
 use lib.Dec.{ltb}
 use lib.IntN.{ℤ}
@@ -25,7 +25,7 @@ use Rattle.answer.proofs.Runs.{front-is}
 use Rattle.answer.proofs.Pieces.{length-file}
 use Rattle.answer.proofs.Encoding.{file-holds}
 use Rattle.answer.proofs.RoundTrip.{reads-back, read-content}
-use Rattle.method.specs.Tree.{Group, Flips, Matrix, Sound, answer, total}
+use Rattle.method.specs.Tree.{Group, Flips, Matrix, oneEntries, Sound, answer, total}
 use Rattle.split.specs.Columns.{matrixIn}
 use Rattle.split.proofs.Soundness.{taken-sound}
 use Rattle.tree.specs.declared.Built.{Built}
@@ -84,7 +84,7 @@ took file space room {size} {sum} e = go (checked file) refl e
 
     go : (k : Checked) → k ≡ checked file → Taken size sum ≡ answered k file space room → Took file space room (Taken size sum)
     go (checks.Refused why) t w = none w
-    go (checks.Taken n m) t w = tested n m t (ltb space (n * m)) (ltb room (roomFor n m)) w
+    go (checks.Taken n m) t w = tested n m t (ltb space (oneEntries (matrixIn file))) (ltb room (roomFor n m)) w
 
 module _ {file answerFile : List ℕ} (b : Leaves file answerFile) where
   it : Took file (length (b .ws)) (length (b .out)) (b .r)
@@ -111,8 +111,8 @@ module _ {file answerFile : List ℕ} (b : Leaves file answerFile) where
     ap (λ (r : Built). returned r .sum) (it .is),
   )
 
--- There is such an answer file for each file that the check takes, given the workspace and the room that document 01 asks.
-pub build-leaves : {file : List ℕ} {n m : ℕ} → checks.Taken n m ≡ checked file → (ws : List ℤ) (out : List ℕ) → n * m ≤ length ws → roomFor n m ≤ length out
+-- There is such an answer file for each file that the check takes, given the workspace that document 02 asks (C-13), and the room that document 01 does.
+pub build-leaves : {file : List ℕ} {n m : ℕ} → checks.Taken n m ≡ checked file → (ws : List ℤ) (out : List ℕ) → oneEntries (matrixIn file) ≤ length ws → roomFor n m ≤ length out
     → Leaves file (fileOf (contentFor (matrixIn file)))
 unfolding built answered outputAfter
 build-leaves {file} {n} {m} taken ws out l k =

@@ -2,6 +2,7 @@
 pub mod Bytes
 pub mod Numbers
 pub mod Refusals
+pub mod Lent
 pub mod Answers
 pub mod OneAnswer
 pub mod Entries

@@ -3,7 +3,7 @@ use mathlib.Core.Path.{_≡_, refl}
 use mathlib.Core.Bool.{_&&_}
 use mathlib.Core.List.{List}
 use mathlib.Core.Logic.{_↔_}
-use Prim.Native.Nat.{ℕ, _*_, _<_}
+use Prim.Native.Nat.{ℕ, _<_}
 use native.Mathlib.Omega.{arith}
 use lib.Dec.{ltb, eqb, lit<}
 use lib.IntN.{ℤ}
@@ -23,6 +23,8 @@ use Rattle.answer.specs.Content.{Content, contentIn, lengthOf}
 use Rattle.answer.specs.Reading as reading
 use Rattle.answer.specs.Writing as writing
 use Rattle.answer.proofs.Numbers.{Numbered, file-numbered, read-numbered, write-numbered}
+use Rattle.method.specs.Tree.{oneEntries}
+use Rattle.split.specs.Columns.{matrixIn}
 use Rattle.split.specs.declared.Divided.{Divided}
 use Rattle.split.specs.declared.Divided.the-variants as divided
 use Rattle.split.specs.Operation as split
@@ -47,7 +49,7 @@ build-numbered file space room = go (check.checked file) refl
     go : (k : Checked) → k ≡ check.checked file → BuildNumbered (build.answered k file space room)
     go (checks.Refused why) e = refusal-small file e .1
     go (checks.Taken n m) e =
-        either-way BuildNumbered (ltb space (n * m)) (lit< tt) (either-way BuildNumbered (ltb room (build.roomFor n m)) (lit< tt) tt)
+        either-way BuildNumbered (ltb space (oneEntries (matrixIn file))) (lit< tt) (either-way BuildNumbered (ltb room (build.roomFor n m)) (lit< tt) tt)
 
 -- Of the split's.
 abbrev SplitNumbered : Divided → Type 0
@@ -60,7 +62,7 @@ split-numbered file S room = go (check.checked file) refl
   where
     go : (k : Checked) → k ≡ check.checked file → SplitNumbered (split.answered k file S room)
     go (checks.Refused why) e = refusal-small file e .1
-    go (checks.Taken n m) e = either-way SplitNumbered (split.noGroup n S) (lit< tt) (either-way SplitNumbered (ltb room (n * m)) (lit< tt) tt)
+    go (checks.Taken n m) e = either-way SplitNumbered (split.noGroup n S) (lit< tt) (either-way SplitNumbered (ltb room (oneEntries (matrixIn file))) (lit< tt) tt)
 
 -- Of the score's.
 abbrev ScoreNumbered : Scored → Type 0

@@ -7,7 +7,7 @@ use Prim.Native.Nat.{ℕ, _<_, _^_}
 use lib.IntN.{ℤ}
 use lib.ListN.{length, take}
 use Rattle.taxa.specs.Sets.{_∈_, multiplicity, low, all}
-use Rattle.method.specs.Flow.{Flow, Reach, arcs, limits}
+use Rattle.method.specs.Flow.{joined, Flow, Reach, arcs, limits}
 use Rattle.method.specs.Split.{Column}
 use Rattle.method.specs.Tree.{Group, Flips, Matrix, column, RootedTree, Fits}
 use Rattle.answer.specs.declared.Answer.{Answer}
@@ -20,11 +20,15 @@ use Rattle.tree.specs.Build.{returned, Builds}
 
 -- ---- the flow search
 
+-- The taxa that each column joins in S: their pairs have the places of the workspace (document 02, C-13).
+abbrev pub joins : (ℕ → Column) → ℕ → ℕ → ℕ
+joins cols S c = joined 64 S (cols c)
+
 -- Of a group S of n taxa, with multiplicities μ, and m columns: "before it is cleared, the workspace holds a flow of the division's cost from s to t, and [..] side A is the
 -- taxa still reachable from s past that flow"; cost, side and t are the method's.
 pub record FlowStands (n : ℕ) (μ : ℕ → ℕ) (m : ℕ) (cols : ℕ → Column) (S : ℕ) (ws : List ℤ) (cost A t : ℕ) : Type 0 where
-  pub flow : Flow n m (arcs n μ m cols S) (limits n μ m cols S) (outs ws n) (inns ws n) (low n S) t cost
-  pub reached : (i : ℕ) → i < n → i ∈ A ↔ Reach n m (arcs n μ m cols S) (limits n μ m cols S) (outs ws n) (inns ws n) (low n S) i
+  pub flow : Flow n m (arcs n μ m cols S) (limits n μ m cols S) (outs ws (joins cols S)) (inns ws (joins cols S)) (low n S) t cost
+  pub reached : (i : ℕ) → i < n → i ∈ A ↔ Reach n m (arcs n μ m cols S) (limits n μ m cols S) (outs ws (joins cols S)) (inns ws (joins cols S)) (low n S) i
   pub is-split : IsSplit μ m cols S cost A t
 
 -- ---- a matrix file and its answer file

@@ -1,3 +1,4 @@
 -- What people hold, and the specimens.
 pub mod Held
+pub mod Lent
 pub mod Specimens

@@ -1,6 +1,6 @@
 -- Document 01's specimens marked P, and its trap of the walking order, on bytes: a table of what is asked and what is told.
 use mathlib.Core.List.{List, [], _∷_, _++_}
-use Prim.Native.Nat.{ℕ, _*_}
+use Prim.Native.Nat.{ℕ}
 use lib.ListN.{take, replicate}
 use Rattle.matrix.specs.Check as matrix
 use Rattle.split.specs.Columns.{matrixIn}
@@ -56,10 +56,10 @@ answerEnd = two 0 ++ two 20
 
 -- ---- questions and answers
 
--- What is asked of the library, each with its bytes.
+-- What is asked of the library, each with its bytes; the build with how many numbers of workspace it is lent.
 pub data Asked : Type 0 where
   check : List ℕ → Asked
-  build : List ℕ → Asked
+  build : ℕ → List ℕ → Asked
   score : List ℕ → List ℕ → Asked
 
 -- What it tells: number and place of the refusal, the two numbers that a success returns, and the bytes written.
@@ -70,13 +70,13 @@ pub record Told : Type 0 where
   pub second : ℕ
   pub bytes : List ℕ
 
--- What the operations' definitions tell. The build is lent a workspace and an output just as long as document 01 asks.
+-- What the operations' definitions tell. The build is lent an output just as long as document 01 asks.
 unfoldable pub tells : Asked → Told
 tells (check file) = let r = matrix.checkNumbers file in record { number = r .number; place = r .place; first = r .n; second = r .m; bytes = [] }
-tells (build file) =
+tells (build space file) =
     let M = matrixIn file in
     let room = tree.roomFor (M .taxa) (many M) in
-    let r = tree.built file (M .taxa * many M) room in
+    let r = tree.built file space room in
     let it = tree.returned r in
     record { number = it .number; place = it .place; first = it .size; second = it .sum; bytes = take (it .size) (tree.outputAfter file r (replicate room 0)) }
 tells (score file answer) = let r = scoring.scoreNumbers file answer in record { number = r .number; place = r .place; first = r .raises; second = r .lowers; bytes = [] }
@@ -96,9 +96,13 @@ refuses file number place = record { asked = check file; told = record { number 
 abbrev takes : List ℕ → ℕ → ℕ → Row
 takes file n m = record { asked = check file; told = record { number = 0; place = 0; first = n; second = m; bytes = [] } }
 
--- A build that is taken: its length, its total, and its answer file.
-abbrev answers : List ℕ → ℕ → ℕ → List ℕ → Row
-answers file size total bytes = record { asked = build file; told = record { number = 0; place = 0; first = size; second = total; bytes = bytes } }
+-- A build that is taken, lent one number for each 1 of its matrix (document 02, C-13): how many that are, its length, its total, and its answer file.
+abbrev answers : ℕ → List ℕ → ℕ → ℕ → List ℕ → Row
+answers space file size total bytes = record { asked = build space file; told = record { number = 0; place = 0; first = size; second = total; bytes = bytes } }
+
+-- A build that is refused for its workspace.
+abbrev lacks : ℕ → List ℕ → Row
+lacks space file = record { asked = build space file; told = record { number = 9; place = 0; first = 0; second = 0; bytes = [] } }
 
 -- A score.
 abbrev scores : List ℕ → List ℕ → ℕ → ℕ → Row
@@ -124,33 +128,37 @@ seventhAnswer = answerHead 2 1 1 0 0 ++ group 3 0 ++ answerEnd
 abbrev pub table : List Row
 table =
     -- 1
-    answers first 112 2 firstAnswer
+    answers 6 first 112 2 firstAnswer
+    ∷ lacks 5 first
     ∷ scores first firstAnswer 0 2
     -- "One flip would do, so total is not the least overall": with taxon 1 lowered in column 1, of weight 1, there is nothing left to flip.
-    ∷ answers (head 4 3 ++ column 1 0b0011 0b1100 ++ column 1 0b0100 0b1011 ++ column 2 0b1100 0b0011 ++ end) 68 0
+    ∷ answers 5 (head 4 3 ++ column 1 0b0011 0b1100 ++ column 1 0b0100 0b1011 ++ column 2 0b1100 0b0011 ++ end) 68 0
     (answerHead 4 3 3 0 0 ++ group 0xf 0 ++ group 3 0 ++ group 0xc 0 ++ answerEnd)
     -- 2
-    ∷ answers (head 3 2 ++ column 1 0b011 0b100 ++ column 1 0b110 0b001 ++ end) 74 1
+    ∷ answers 4 (head 3 2 ++ column 1 0b011 0b100 ++ column 1 0b110 0b001 ++ end) 74 1
     (answerHead 3 2 2 1 1 ++ group 7 1 ++ group 6 0 ++ flips 0 0b100 0 ++ answerEnd)
     -- 2 with multiplicities 1, 1, 2 (document 02's C-14): to raise taxon 2 in column 0 would weigh 2, to lower taxon 0 there weighs 1.
-    ∷ answers (head 3 2 ++ merged 1 1 2 ++ column 1 0b011 0b100 ++ column 1 0b110 0b001 ++ end) 74 1
+    ∷ answers 4 (head 3 2 ++ merged 1 1 2 ++ column 1 0b011 0b100 ++ column 1 0b110 0b001 ++ end) 74 1
     (answerHead 3 2 2 1 1 ++ group 7 1 ++ group 6 0 ++ flips 0 0 0b001 ++ answerEnd)
     -- 3
-    ∷ answers (head 3 2 ++ column 2 0b011 0b100 ++ column 1 0b110 0b001 ++ end) 74 1
+    ∷ answers 4 (head 3 2 ++ column 2 0b011 0b100 ++ column 1 0b110 0b001 ++ end) 74 1
     (answerHead 3 2 2 1 1 ++ group 7 1 ++ group 3 0 ++ flips 1 0b001 0 ++ answerEnd)
     -- 4
-    ∷ answers (head 4 2 ++ column 1 0b0111 0b1000 ++ column 3 0b1100 0b0011 ++ end) 74 1
+    ∷ answers 5 (head 4 2 ++ column 1 0b0111 0b1000 ++ column 3 0b1100 0b0011 ++ end) 74 1
     (answerHead 4 2 2 1 1 ++ group 0xf 1 ++ group 0xc 0 ++ flips 0 0b1000 0 ++ answerEnd)
     -- 5
-    ∷ answers (head 3 1 ++ column 1 0b111 0 ++ end) 36 0 (answerHead 3 1 1 0 0 ++ group 7 0 ++ answerEnd)
+    ∷ answers 3 (head 3 1 ++ column 1 0b111 0 ++ end) 36 0 (answerHead 3 1 1 0 0 ++ group 7 0 ++ answerEnd)
     -- 6
-    ∷ answers (head 1 0 ++ end) 20 0 (answerHead 1 0 0 0 0 ++ answerEnd)
+    ∷ answers 0 (head 1 0 ++ end) 20 0 (answerHead 1 0 0 0 0 ++ answerEnd)
     -- 7, its score as of document 02's C-12
-    ∷ answers seventh 36 0 seventhAnswer
+    ∷ answers 0 seventh 36 0 seventhAnswer
     ∷ scores seventh seventhAnswer 0 0
     -- "{0,5,6}, {5,6}, {1,2} is one [walking order], yet {1,2} precedes {5,6} here."
-    ∷ answers (head 7 3 ++ column 1 0x61 0x1e ++ column 1 0x60 0x1f ++ column 1 0x06 0x79 ++ end) 84 0
+    ∷ answers 7 (head 7 3 ++ column 1 0x61 0x1e ++ column 1 0x60 0x1f ++ column 1 0x06 0x79 ++ end) 84 0
     (answerHead 7 3 4 0 0 ++ group 0x7f 0 ++ group 0x61 0 ++ group 0x06 0 ++ group 0x60 0 ++ answerEnd)
+    -- C-13: one taxon with a 1 needs a number, though nothing is split.
+    ∷ answers 1 (head 1 1 ++ column 1 0b1 0 ++ end) 20 0 (answerHead 1 1 0 0 0 ++ answerEnd)
+    ∷ lacks 0 (head 1 1 ++ column 1 0b1 0 ++ end)
     -- 8
     ∷ refuses [] 1 0
     ∷ refuses (head 65 0 ++ end) 3 0

@@ -8,10 +8,11 @@ use search::Split;
 use split::Divided;
 use tree::Built;
 ghost use mathlib.Core.Path.{_≡_};
-ghost use Prim.Native.Nat.{_*_, _≤_};
+ghost use Prim.Native.Nat.{_≤_};
 ghost use lib.ListN.{length};
 ghost use Rattle.taxa.specs.Sets.{multiplicityIn};
 ghost use Rattle.matrix.specs.Check.{Checks, checked};
+ghost use Rattle.method.specs.Flow.{arcCount};
 ghost use Rattle.search.specs.Search.{Given, colsOf};
 ghost use Rattle.search.specs.Workspace.{Kept};
 ghost use Rattle.split.specs.Operation.{Splits};
@@ -73,13 +74,14 @@ pub fn search(
     m: usize,
     workspace: &mut [i32],
 ) -> Split
-    requires { ⌜ Given (now weights) (now planes) (now ones) (now zeros) group n m × (n * m ≤ length (now workspace)) ⌝ }
+    requires { ⌜ Given (now weights) (now planes) (now ones) (now zeros) group n m × (arcCount m (colsOf (now weights) (now ones) (now zeros)) group ≤ length (now workspace)) ⌝ }
     ensures { λ r. ⌜
         FlowStands n (multiplicityIn (now (planes .entry))) m (colsOf (now (weights .entry)) (now (ones .entry)) (now (zeros .entry))) group (now (workspace .exit)) (r .cost) (r .side) (r .other)
-        × Kept (n * m) (now (workspace .entry)) (now (workspace .exit)) ⌝ }
+        × Kept (arcCount m (colsOf (now (weights .entry)) (now (ones .entry)) (now (zeros .entry))) group) (now (workspace .entry)) (now (workspace .exit)) ⌝ }
 {
     let mut joined = [0u64; 256];
     let mut limits = [0u32; 256];
+    let mut offsets = [0u16; 257];
     let mut used = [0u32; 256];
     let mut tree = [0u32; 256];
     search::divide(
@@ -93,6 +95,7 @@ pub fn search(
         workspace,
         &mut joined,
         &mut limits,
+        &mut offsets,
         &mut used,
         &mut tree,
     )

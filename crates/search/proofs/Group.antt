@@ -1,6 +1,6 @@
 -- The search of a group: a largest flow to each taxon in turn from those below it, the least of them, and that it names what listing names.
 use Prim.Native.Nat.{ℕ, _+_, _-_, _*_, _^_, _≤_, _<_}
-use mathlib.Core.Path.{_≡_, refl, sym, ap, _∙_}
+use mathlib.Core.Path.{_≡_, refl, sym, ap, ap₂, _∙_}
 use mathlib.Core.Bool.{Bool, true, false, not, cond, true≢false}
 use mathlib.Core.List.{List}
 use mathlib.Core.Logic.{_≢_, ⊎-elim, _↔_}
@@ -8,29 +8,31 @@ use native.Mathlib.Nat.{mul-le-mul-left}
 use native.Mathlib.Decide.{decLt}
 use native.Mathlib.Omega.{arith}
 use lib.Dec.{ltb}
-use lib.IntN.{ℤ}
-use lib.ListN.{length}
+use lib.IntN.{ℤ, pos}
+use lib.ListN.{length, getD}
 use lib.Pow.{pow-mono, pow-lt}
 use borrow.Author.Tests.{lt-ltb, le-ltb, ltb-true}
 use Rattle.taxa.specs.Sum.{∁}
-use Rattle.taxa.specs.Sets.{has, all, _∈_, _∉_, _⊆_, _∩_, _∖_, mass, count, low, multiplicityIn}
+use Rattle.taxa.specs.Sets.{has, all, _∈_, _∉_, _⊆_, _∩_, _∖_, mass, count, sizes, low, multiplicityIn}
+use Rattle.taxa.proofs.Ranks.{sizes-≡}
 use Rattle.taxa.proofs.Sums.{sum-≤}
 use Rattle.taxa.proofs.Insides.{inside-term}
 use Rattle.taxa.proofs.Members.{all-<, in-all, in-pow, pow-in, out, in∩, in∖, ∩-≤, in-remove, none, below, low-in, low-≤, low-width, ⊆-≤, ∖-⊆}
 use Rattle.taxa.proofs.Counts.{count-pos, count-some, count-remove, count-width}
 use Rattle.taxa.proofs.Masses.{mass-in, mass-width}
 use Rattle.method.specs.Split.{Division, divisionCost, side}
-use Rattle.method.specs.Flow.{joined, cap, through, cut as cutIn, cutCost, Flow, Reach, start, step}
+use Rattle.method.specs.Flow.{joined, arcCount, cap, through, cut as cutIn, cutCost, Flow, Reach, start, step}
 use Rattle.method.specs.Sources.{FlowFrom}
 use Rattle.method.proofs.Sources.{true?, Alone, alone-off, as-one, reach-one, one-reach}
 use Rattle.method.proofs.Cuts.{weak-from, full-from, weak, min-cut, MinCut}
 use Rattle.method.proofs.Cuts as cuts
 use Rattle.method.proofs.Listing.{Search, search-side}
 use Rattle.method.proofs.Network.{network-cost}
-use Rattle.search.specs.Workspace.{outs, inns, cleared}
-use Rattle.search.specs.Network.{nth, caps, Net}
+use Rattle.search.specs.Workspace.{slot, netFlow, outs, inns, cleared}
+use Rattle.search.specs.Signed.{outOf, innOf}
+use Rattle.search.specs.Network.{nth, caps, Offsets, Net}
 use Rattle.search.specs.Flows.{Side, Largest}
-use Rattle.search.specs.Search.{colsOf, Given, capsOf, throughOf, DividedByFlow}
+use Rattle.search.specs.Search.{colsOf, Given, capsOf, throughOf, joinsOf, DividedByFlow}
 use Rattle.search.specs.Trying.{Joins, Limits, tie, ties, costs, Parts, Tried}
 use Rattle.method.proofs.Carry.{same?}
 use Rattle.search.proofs.Reaching.{caps-in, in-caps, off-none}
@@ -41,12 +43,12 @@ use Rattle.search.proofs.Same.{same-cost, same-flow, same-reach}
 
 -- A largest flow from the taxa of X to t stands in the workspace, and A is what hops reach past it.
 pub record Stands (W P J L : List ℕ) (n m : ℕ) (ws : List ℤ) (X t k A : ℕ) : Type 0 where
-  pub flow : FlowFrom n m (caps W P J) (nth L) (outs ws n) (inns ws n) (has X) t k
+  pub flow : FlowFrom n m (caps W P J) (nth L) (outs ws (nth J)) (inns ws (nth J)) (has X) t k
   pub side : Side W P J L n m ws X A
   pub parts : has A t ≡ false
 
-at-most : (W P J L : List ℕ) {n m : ℕ} (ws : List ℤ) (X : ℕ) {t k : ℕ} → FlowFrom n m (caps W P J) (nth L) (outs ws n) (inns ws n) (has X) t k → (D : ℕ → Bool) → ((i : ℕ) → has X i ≡ true → D i ≡ true) → D t ≡ false → k ≤ costs W P J L n m D
-at-most W P J L {n} {m} ws X f D u v = weak-from n m (caps W P J) (nth L) (outs ws n) (inns ws n) f D u v
+at-most : (W P J L : List ℕ) {n m : ℕ} (ws : List ℤ) (X : ℕ) {t k : ℕ} → FlowFrom n m (caps W P J) (nth L) (outs ws (nth J)) (inns ws (nth J)) (has X) t k → (D : ℕ → Bool) → ((i : ℕ) → has X i ≡ true → D i ≡ true) → D t ≡ false → k ≤ costs W P J L n m D
+at-most W P J L {n} {m} ws X f D u v = weak-from n m (caps W P J) (nth L) (outs ws (nth J)) (inns ws (nth J)) f D u v
 
 module _ {W P J L : List ℕ} {n m : ℕ} {ws : List ℤ} {X t : ℕ} where
   -- Below the bound it is a largest flow.
@@ -58,7 +60,7 @@ module _ {W P J L : List ℕ} {n m : ℕ} {ws : List ℤ} {X t : ℕ} where
 
   -- The taxa reached are a set with X and without t that costs as much.
   pub stand-parts : {k A : ℕ} → X < 2 ^ n → Stands W P J L n m ws X t k A → (S : ℕ) {s : ℕ} → has X s ≡ true → has S t ≡ true → Parts W P J L n m S s k t
-  stand-parts {k} {A} fits r S {s} x h = record { other = h; set = A; with-s = held s x; off-b = r .parts; costs-k = full-from n m (caps W P J) (nth L) (outs ws n) (inns ws n) (r .flow) (has A) held (r .parts) (r .side .all) }
+  stand-parts {k} {A} fits r S {s} x h = record { other = h; set = A; with-s = held s x; off-b = r .parts; costs-k = full-from n m (caps W P J) (nth L) (outs ws (nth J)) (inns ws (nth J)) (r .flow) (has A) held (r .parts) (r .side .all) }
     where
       held : (i : ℕ) → has X i ≡ true → has A i ≡ true
       held i q = r .side .all i (below n fits (record { is = q })) .1 (i, q, start)
@@ -72,7 +74,7 @@ cond-≤ : (t : Bool) {x y : ℕ} → (t ≡ true → x ≤ y) → cond t x 0 �
 cond-≤ true h = h refl
 cond-≤ false h = omega arith
 
-module _ {W P J L : List ℕ} {n m : ℕ} (z : Net W P J L n m) (D : ℕ → Bool) {u : ℕ} (bu : u < n) {l : ℕ} (fits : l < 2 ^ u) (all-in : (i : ℕ) → i ∈ l → D i ≡ true) (off : D u ≡ false) where
+module _ {W P J L F : List ℕ} {n m : ℕ} (z : Net W P J L F n m) (D : ℕ → Bool) {u : ℕ} (bu : u < n) {l : ℕ} (fits : l < 2 ^ u) (all-in : (i : ℕ) → i ∈ l → D i ≡ true) (off : D u ≡ false) where
   -- An arc carries at least the weight: no multiplicity is 0.
   arc-≥ : (c i : ℕ) → has (nth J c) i ≡ true → nth W c ≤ caps W P J c i
   arc-≥ c i h = omega (arith, caps-in W P J c i h, mul-le-mul-left (nth W c) (z .positive .some i))
@@ -164,7 +166,7 @@ module _ {W P J L : List ℕ} {n m S s : ℕ} where
     stays at = record { best = r .best; below = omega (arith, r .below); least = still-least (omega arith) at; first = r .first }
 
     -- as where u is tied fast to those taxa,
-    pub tried-tied : Net W P J L n m → u < n → k ≤ ties W J m (S ∩ all u) u → Tried W P J L n m S s (u + 1) k b
+    pub tried-tied : {F : List ℕ} → Net W P J L F n m → u < n → k ≤ ties W J m (S ∩ all u) u → Tried W P J L n m S s (u + 1) k b
     tried-tied z bu le = stays (λ D h q. omega (arith, ties-≤ z D bu (omega (arith, ∩-≤ S (all u), all-< u)) h q))
 
     module _ {ws : List ℤ} {k′ A : ℕ} (l : Largest W P J L n m ws (S ∩ all u) u k k′ A) where
@@ -185,12 +187,12 @@ module _ {W P J L : List ℕ} {n m S s : ℕ} where
 
 -- ---- no flow is needed: b is the first taxon of S that hops do not reach past none
 
-module _ {W P J L : List ℕ} {n m s : ℕ} (S : ℕ) (z : Net W P J L n m) (ws : List ℤ) (places : n * m ≤ length ws) (bs : s < n) {A b : ℕ} (d : Side W P J L n m (cleared (n * m) ws) (2 ^ s) A)
+module _ {W P J L F : List ℕ} {n m s : ℕ} (S : ℕ) (z : Net W P J L F n m) (ws : List ℤ) (places : sizes m (nth J) ≤ length ws) (bs : s < n) {A b : ℕ} (d : Side W P J L n m (cleared (sizes m (nth J)) ws) (2 ^ s) A)
     (bb : b < n) (h : has S b ≡ true) (off : has A b ≡ false) (lo : (i : ℕ) → i < b → has S i ≡ true → has A i ≡ true) where
-  none-from : {i : ℕ} → i < n → i ≢ s → FlowFrom n m (caps W P J) (nth L) (outs (cleared (n * m) ws) n) (inns (cleared (n * m) ws) n) (has (2 ^ s)) i 0
+  none-from : {i : ℕ} → i < n → i ≢ s → FlowFrom n m (caps W P J) (nth L) (outs (cleared (sizes m (nth J)) ws) (nth J)) (inns (cleared (sizes m (nth J)) ws) (nth J)) (has (2 ^ s)) i 0
   none-from {i} bi ne = no-flow z ws places (none-used (z .columns)) (pow-lt bs) bi (pow-off ne) .flow
 
-  pub free-stands : Stands W P J L n m (cleared (n * m) ws) (2 ^ s) b 0 A
+  pub free-stands : Stands W P J L n m (cleared (sizes m (nth J)) ws) (2 ^ s) b 0 A
   free-stands = record { flow = none-from bb (λ e. clash (has A) s b (d .all s bs .1 (one-reach (pow-alone s) start)) off (sym e)); side = d; parts = off }
 
   pub tried-free : Tried W P J L n m S s n 0 b
@@ -201,7 +203,7 @@ module _ {W P J L : List ℕ} {n m s : ℕ} (S : ℕ) (z : Net W P J L n m) (ws 
       some D i p q k l (no c) =
           let f = as-one (pow-alone s) bs (none-from (omega arith) (λ e. clash D s i p q (sym e))) in
           let r = reach-one (pow-alone s) (d .all i (omega arith) .0 (lo i l k)) in
-          absurd (true≢false (sym (cuts.least n m (caps W P J) (nth L) (outs (cleared (n * m) ws) n) (inns (cleared (n * m) ws) n) f bs D p q (omega arith) r) ∙ q))
+          absurd (true≢false (sym (cuts.least n m (caps W P J) (nth L) (outs (cleared (sizes m (nth J)) ws) (nth J)) (inns (cleared (sizes m (nth J)) ws) (nth J)) f bs D p q (omega arith) r) ∙ q))
 
 -- ---- the lowest taxa of a group
 
@@ -253,6 +255,27 @@ module _ {W P O Z : List ℕ} {S n m : ℕ} (g : Given W P O Z S n m) {J L : Lis
   unfolding joined colsOf
   joined-is c b = j .is c b ∙ ap (λ (z : ℕ). cond (ltb 0 z) (nth O c ∩ S) 0) (zeros-64 c)
 
+  -- The places of the pairs are those of the group's arcs.
+  row-is : (c : ℕ) → c < m → nth J c ≡ joinsOf W P O Z S n m c
+  unfolding joined colsOf
+  row-is = j .is
+
+  pub arcs-are : sizes m (nth J) ≡ arcCount m (colsOf W O Z) S
+  unfolding arcCount
+  arcs-are = sizes-≡ m row-is
+
+  module _ (ws : List ℤ) (c : ℕ) (b : c < m) where
+    before : sizes c (nth J) ≡ sizes c (joinsOf W P O Z S n m)
+    before = sizes-≡ c (λ e l. row-is e (omega arith))
+
+    outs-is : outs ws (nth J) c ≡ outs ws (joinsOf W P O Z S n m) c
+    unfolding outs netFlow slot
+    outs-is = ap₂ (λ (x k : ℕ). λ (i : ℕ). outOf (cond (has x i) (getD ws (k + count i x) (pos 0)) (pos 0))) (row-is c b) before
+
+    inns-is : inns ws (nth J) c ≡ inns ws (joinsOf W P O Z S n m) c
+    unfolding inns netFlow slot
+    inns-is = ap₂ (λ (x k : ℕ). λ (i : ℕ). innOf (cond (has x i) (getD ws (k + count i x) (pos 0)) (pos 0))) (row-is c b) before
+
   caps-is : (c : ℕ) → c < m → caps W P J c ≡ capsOf W P O Z S n m c
   unfolding caps cap colsOf
   caps-is c b = ap (λ (x : ℕ). λ (i : ℕ). cond (has x i) (nth W c * multiplicityIn P i) 0) (joined-is c b)
@@ -282,14 +305,14 @@ module _ {W P O Z : List ℕ} {S n m : ℕ} (g : Given W P O Z S n m) {J L : Lis
       let (y, by, q) = count-some 64 z (cond-pos (count 64 z) (nth O c ∩ S) i (ap (λ (x : ℕ). has x i) (sym (j .is c b)) ∙ h)) in
       omega (arith, l .is c b, mul-le-mul-left (nth W c) (mass-in 64 (multiplicityIn P) (g .positive) by q))
 
-  pub net : ((c : ℕ) → c < m → nth W c < 65536) → Net W P J L n m
-  net light = record { taxa = g .taxa; columns = g .columns; weights = g .weights; positive = g .positive; tabled = g .tabled; light = light; low = λ c b i h. below n (g .group) (record { is = joins-in c b i h }); wide = wide }
+  pub net : {F : List ℕ} → Offsets J F m → ((c : ℕ) → c < m → nth W c < 65536) → Net W P J L F n m
+  net offsets light = record { taxa = g .taxa; columns = g .columns; offsets = offsets; weights = g .weights; positive = g .positive; tabled = g .tabled; light = light; low = λ c b i h. below n (g .group) (record { is = joins-in c b i h }); wide = wide }
 
   cost-is : (A : ℕ) → A ⊆ S → costs W P J L n m (has A) ≡ divisionCost n (multiplicityIn P) m (colsOf W O Z) S A
   cost-is A h = same-cost n caps-is through-is (has A) ∙ network-cost n (multiplicityIn P) m (colsOf W O Z) S A h
 
   -- Hops from a taxon of S stay in S.
-  reach-in : (ws : List ℤ) {s i : ℕ} → has S s ≡ true → Reach n m (caps W P J) (nth L) (outs ws n) (inns ws n) s i → has S i ≡ true
+  reach-in : (ws : List ℤ) {s i : ℕ} → has S s ≡ true → Reach n m (caps W P J) (nth L) (outs ws (nth J)) (inns ws (nth J)) s i → has S i ≡ true
   reach-in ws h start = h
   reach-in ws h (step {j = x} c r bc bx p) = joins-in c bc x (in-caps W P J c x (omega (arith, p .down)))
 
@@ -309,14 +332,14 @@ module _ {W P O Z : List ℕ} {S n m : ℕ} (g : Given W P O Z S n m) {J L : Lis
     inner = side-in (low n S) (s-in .is) (d .side)
 
     -- The flow and the taxa reached, of s alone.
-    flow : Flow n m (caps W P J) (nth L) (outs ws n) (inns ws n) (low n S) b k′
+    flow : Flow n m (caps W P J) (nth L) (outs ws (nth J)) (inns ws (nth J)) (low n S) b k′
     flow = as-one (pow-alone (low n S)) bs (d .flow)
 
-    hops : (i : ℕ) → i < n → has A i ≡ true ↔ Reach n m (caps W P J) (nth L) (outs ws n) (inns ws n) (low n S) i
+    hops : (i : ℕ) → i < n → has A i ≡ true ↔ Reach n m (caps W P J) (nth L) (outs ws (nth J)) (inns ws (nth J)) (low n S) i
     hops i bi = (λ h. reach-one (pow-alone (low n S)) (d .side .all i bi .0 h), λ h. d .side .all i bi .1 (one-reach (pow-alone (low n S)) h))
 
-    cut : (k′ ≡ cutCost n m (caps W P J) (nth L) (has A)) × MinCut n m (caps W P J) (nth L) (outs ws n) (inns ws n) (low n S) b (has A)
-    cut = min-cut n m (caps W P J) (nth L) (outs ws n) (inns ws n) flow bs (has A) hops (d .parts)
+    cut : (k′ ≡ cutCost n m (caps W P J) (nth L) (has A)) × MinCut n m (caps W P J) (nth L) (outs ws (nth J)) (inns ws (nth J)) (low n S) b (has A)
+    cut = min-cut n m (caps W P J) (nth L) (outs ws (nth J)) (inns ws (nth J)) flow bs (has A) hops (d .parts)
 
     with-s : has A (low n S) ≡ true
     with-s = hops (low n S) bs .1 start
@@ -331,7 +354,7 @@ module _ {W P O Z : List ℕ} {S n m : ℕ} (g : Given W P O Z S n m) {J L : Lis
           arith,
           r .least (has A) b with-s (d .parts) b-in (below n (g .group) (record { is = b-in })),
           cut .0,
-          weak n m (caps W P J) (nth L) (outs ws n) (inns ws n) flow bs (has (r .best .set)) (r .best .with-s) (r .best .off-b),
+          weak n m (caps W P J) (nth L) (outs ws (nth J)) (inns ws (nth J)) flow bs (has (r .best .set)) (r .best .with-s) (r .best .off-b),
           r .best .costs-k,
         )
 
@@ -376,19 +399,22 @@ module _ {W P O Z : List ℕ} {S n m : ℕ} (g : Given W P O Z S n m) {J L : Lis
     divided =
         let q = search-side n (multiplicityIn P) m (colsOf W O Z) S (g .group) (g .two) found in
         record {
-          flow = same-flow n caps-is through-is flow;
-          reached = λ i bi. (λ h. same-reach n caps-is through-is (hops i bi .0 h), λ h. hops i bi .1 (same-reach n (λ c b. sym (caps-is c b)) (λ c b. sym (through-is c b)) h));
+          flow = same-flow n caps-is through-is (outs-is ws) (inns-is ws) flow;
+          reached = λ i bi. (
+            λ h. same-reach n caps-is through-is (outs-is ws) (inns-is ws) (hops i bi .0 h),
+            λ h. hops i bi .1 (same-reach n (λ c b. sym (caps-is c b)) (λ c b. sym (through-is c b)) (λ c b. sym (outs-is ws c b)) (λ c b. sym (inns-is ws c b)) h),
+          );
           is-side = q .0;
           is-cost = is-cost;
           is-parted = q .1;
         }
 
   -- The same where no flow is needed: b is the lowest taxon of S that hops do not reach past none.
-  pub divided-free : (ws : List ℤ) {ws′ : List ℤ} {A off b : ℕ} → Net W P J L n m → n * m ≤ length ws → Side W P J L n m ws′ (2 ^ low n S) A → ws′ ≡ cleared (n * m) ws → off ≡ S ∖ A → b ≡ low 64 off → b ∈ off
+  pub divided-free : (ws : List ℤ) {ws′ : List ℤ} {A off b : ℕ} {F : List ℕ} → Net W P J L F n m → sizes m (nth J) ≤ length ws → Side W P J L n m ws′ (2 ^ low n S) A → ws′ ≡ cleared (sizes m (nth J)) ws → off ≡ S ∖ A → b ≡ low 64 off → b ∈ off
       → DividedByFlow W P O Z S n m ws′ 0 b A
   divided-free ws {ws′} {A} {off} {b} z places d q o u h = rw q (divided (tried-free S z ws places bs d′ bb (p .0 .is) (out (p .1)) lo) (free-stands S z ws places bs d′ bb (p .0 .is) (out (p .1)) lo))
     where
-      d′ : Side W P J L n m (cleared (n * m) ws) (2 ^ low n S) A
+      d′ : Side W P J L n m (cleared (sizes m (nth J)) ws) (2 ^ low n S) A
       d′ = rw q at d
 
       bs : low n S < n

@@ -8,20 +8,28 @@ use native.Mathlib.Omega.{arith}
 use lib.IntN.{ℤ}
 use lib.ListN.{length, set, length-set}
 use lib.Seq.{getD-set-same, getD-set-other}
+use Rattle.taxa.specs.Sum.{sum}
 use Rattle.taxa.specs.Sets.{has, all, _⊆_, _∩_, _∪_, _∖_, count, multiplicityIn}
 use Rattle.taxa.proofs.Digits.{has-none}
 use Rattle.taxa.proofs.Counts.{count-in, count-insert}
 use Rattle.taxa.proofs.Members.{below, in-insert, in-remove, in∩, in∖, out, same-bool, disjoint-∩, ∩-disjoint, ⊆-refl, ⊆-≤, in-all}
 use Rattle.method.proofs.Carry.{up, down, room, most, carry}
-use Rattle.search.specs.Workspace.{outs, inns, Entry}
+use Rattle.search.specs.Workspace.{IsColumn, outs, inns}
 use Rattle.method.proofs.HopTree.{Joined}
-use Rattle.search.specs.Network.{nth, arc, caps, Ready}
+use Rattle.search.specs.Network.{nth, arc, caps, Pair, Ready}
 use Rattle.search.specs.Reaching.{fromOf, viaOf, turnOf, widthOf, carried, IsGate, Rooted, Grow, Leads, Offered, stays, joins, Passed, Crossed, Missed, Swept, Planted, Found}
-use Rattle.search.proofs.Workspace.{slot-lt}
+use Rattle.search.proofs.Workspace.{slot-lt, column-place}
 use Rattle.method.proofs.Carry.{same?, carry-up, carry-open}
 use Rattle.method.proofs.Sources.{true?}
 use Rattle.method.proofs.HopTree.{reached}
 use Rattle.method.proofs.Sweep.{leads-open, leads-full, send-start, send-end, send-keeps, send-join}
+
+max-swap : (x y z : ℕ) → max (max x z) y ≡ max (max x y) z
+max-swap x y z = omega arith
+
+-- The least of three, and of four, whichever two are compared first.
+pub min-first : (s w t f : ℕ) → min (min (min s w) t) f ≡ min (min (min s t) f) w
+min-first s w t f = omega arith
 
 -- ---- what a column joins
 
@@ -37,16 +45,26 @@ pub in-caps : (W P J : List ℕ) (c i : ℕ) → 0 < caps W P J c i → has (nth
 unfolding caps
 in-caps W P J c i h = cond-some (has (nth J c) i) (arc W P c i) h
 
-module _ {W P J L : List ℕ} {n m : ℕ} {ws : List ℤ} {U : List ℕ} (r : Ready W P J L n m ws U) {c : ℕ} (bc : c < m) where
-  pub entry : (j : ℕ) → has (nth J c) j ≡ true → Entry ws n c j (arc W P c j)
+module _ {W P J L F : List ℕ} {n m : ℕ} {ws : List ℤ} {U : List ℕ} (r : Ready W P J L F n m ws U) {c : ℕ} (bc : c < m) where
+  -- A pair that it joins has its place.
+  pub pair : (j : ℕ) → has (nth J c) j ≡ true → Pair J F ws c j
+  pair j h =
+      let bj : j < 64 = omega (arith, r .net .low c bc j h, r .net .taxa) in
+      record {
+        column = omega (arith, r .net .columns);
+        taxon = bj;
+        joins = h;
+        offsets = r .net .offsets .long;
+        offset = r .net .offsets .is c (omega arith);
+        place = omega (arith, slot-lt (nth J) m c j bc bj h, r .places);
+      }
+
+  -- What runs there is at most what its arc carries.
+  pub entry : (j : ℕ) → has (nth J c) j ≡ true → (outs ws (nth J) c j ≤ arc W P c j) × (inns ws (nth J) c j ≤ arc W P c j)
   entry j h =
       let bj = r .net .low c bc j h in
       let e = caps-in W P J c j h in
-      record {
-        place = omega (arith, slot-lt n m c j bc bj, r .places);
-        out = omega (arith, r .column c bc .out-fits j bj);
-        inn = omega (arith, r .column c bc .inn-fits j bj);
-      }
+      (omega (arith, r .column c bc .out-fits j bj), omega (arith, r .column c bc .inn-fits j bj))
 
   pub used-fits : nth U c ≤ nth L c
   used-fits = omega (arith, r .sums c bc, r .column c bc .limit)
@@ -57,19 +75,32 @@ module _ {W P J L : List ℕ} {n m : ℕ} {ws : List ℤ} {U : List ℕ} (r : Re
       let h = carry-open (r .column c bc) bi bx p in
       (in-caps W P J c i (omega (arith, h .up)), in-caps W P J c x (omega (arith, h .down)))
 
-  module _ {i w u b v : ℕ} (g : IsGate W P L U n ws c i w u b v) (hi : has (nth J c) i ≡ true) where
-    pub gate-up : u ≡ up n (caps W P J c) (nth L c) (outs ws n c) (inns ws n c) i
+  module _ {i w u v : ℕ} (g : IsGate W P L U c i (outs ws (nth J) c i) (inns ws (nth J) c i) w u v) (hi : has (nth J c) i ≡ true) where
+    pub gate-up : u ≡ up n (caps W P J c) (nth L c) (outs ws (nth J) c) (inns ws (nth J) c) i
     unfolding up
     gate-up = rw (caps-in W P J c i hi) (g .is-sends)
 
-    pub gate-free : max b v ≡ max (inns ws n c i) (room n (caps W P J c) (nth L c) (outs ws n c) (inns ws n c))
+    pub gate-free : v ≡ max (inns ws (nth J) c i) (room n (caps W P J c) (nth L c) (outs ws (nth J) c) (inns ws (nth J) c))
     unfolding room
-    gate-free = rw (g .is-back, g .is-room, r .sums c bc)
+    gate-free = rw (r .sums c bc) at (g .is-free)
 
     -- The formula of the code is what the hop carries.
-    pub gate-carry : (j : ℕ) → has (nth J c) j ≡ true → min (min u (w * multiplicityIn P j + outs ws n c j - inns ws n c j)) (max (max b (outs ws n c j)) v) ≡ carried W P J L n ws c i j
+    pub gate-carry : (j : ℕ) → has (nth J c) j ≡ true → min (min u (w * multiplicityIn P j + outs ws (nth J) c j - inns ws (nth J) c j)) (max v (outs ws (nth J) c j)) ≡ carried W P J L n ws c i j
     unfolding carry most down room
-    gate-carry j h = rw (gate-up, g .is-weight, g .is-back, g .is-room, r .sums c bc, caps-in W P J c j h)
+    gate-carry j h = rw (gate-up, g .is-weight, g .is-free, r .sums c bc, caps-in W P J c j h, max-swap (inns ws (nth J) c i) (outs ws (nth J) c j) (nth L c - sum n (outs ws (nth J) c)))
+
+-- A gate, of the net flow that was read.
+pub gate-of : {W P L U : List ℕ} {c i out inn out′ inn′ w u v : ℕ} → IsGate W P L U c i out inn w u v → (out ≡ out′) × (inn ≡ inn′) → IsGate W P L U c i out′ inn′ w u v
+gate-of g (o, e) = record { is-weight = g .is-weight; is-sends = rw (← o, ← e) (g .is-sends); is-free = rw (← e) (g .is-free) }
+
+-- What reading a pair asks, where its column is known.
+pub pair-asks : {J F : List ℕ} {ws : List ℤ} {c i joined offset : ℕ} → Pair J F ws c i → IsColumn (nth J) c joined offset × (offset < 65536)
+    → (i < 64) × (offset < 65536) × (offset + count i joined < length ws)
+pair-asks {i = i} p (k, small) = (p .taxon, small, omega (arith, column-place i k, p .place))
+
+-- A pair has its place in another workspace of the same length.
+pub pair-long : {J F : List ℕ} {ws ws′ : List ℤ} {c i : ℕ} → Pair J F ws c i → length ws′ ≡ length ws → Pair J F ws′ c i
+pair-long p e = record { column = p .column; taxon = p .taxon; joins = p .joins; offsets = p .offsets; offset = p .offset; place = omega (arith, p .place) }
 
 -- ---- one taxon joins
 
@@ -151,10 +182,10 @@ hit {goal} {a} p h = omega (arith, disjoint-∩ {x = goal} {y = a} (record { off
 module _ (W P J L : List ℕ) (n : ℕ) (ws : List ℤ) (c x : ℕ) where
   -- What taxon i can send through the column, and whether it turns flow back or finds room.
   abbrev pub sendsOf : ℕ → ℕ
-  sendsOf = up n (caps W P J c) (nth L c) (outs ws n c) (inns ws n c)
+  sendsOf = up n (caps W P J c) (nth L c) (outs ws (nth J) c) (inns ws (nth J) c)
 
   abbrev pub freeOf : ℕ → ℕ
-  freeOf i = max (inns ws n c i) (room n (caps W P J c) (nth L c) (outs ws n c) (inns ws n c))
+  freeOf i = max (inns ws (nth J) c i) (room n (caps W P J c) (nth L c) (outs ws (nth J) c) (inns ws (nth J) c))
 
   -- Of the taxa of x without those of l none leads everywhere, and `found` is one that sends, if one does.
   pub record Seeks (l found : ℕ) : Type 0 where
@@ -167,15 +198,15 @@ module _ {W P J L : List ℕ} {n : ℕ} {ws : List ℤ} {c x : ℕ} where
   seek-start = record { inside = ⊆-refl x; held = λ ne. absurd (ne refl); passed = λ y h k. absurd (true≢false (sym h ∙ k)) }
 
   pub seek-found : {i : ℕ} → has x i ≡ true → 0 < sendsOf W P J L n ws c x i → 0 < freeOf W P J L n ws c x i → i < 64 → Leads W P J L n ws c x i
-  seek-found {i} h u f b = record { held = λ ne. h; sends = λ y j k p. (λ e. omega arith, leads-open n (caps W P J c) (nth L c) (outs ws n c) (inns ws n c) i y j u p f) }
+  seek-found {i} h u f b = record { held = λ ne. h; sends = λ y j k p. (λ e. omega arith, leads-open n (caps W P J c) (nth L c) (outs ws (nth J) c) (inns ws (nth J) c) i y j u p f) }
 
   pub seek-end : {found : ℕ} → Seeks W P J L n ws c x 0 found → Leads W P J L n ws c x found
   seek-end {found} k = record { held = λ ne. k .held ne .0; sends = sends }
     where
       sends : (y j : ℕ) → has x y ≡ true → 0 < carried W P J L n ws c y j → (found ≢ 64) × (0 < carried W P J L n ws c found j)
       sends y j h p =
-          let q = k .passed y h (has-none y) (omega (arith, carry-up n (caps W P J c) (nth L c) (outs ws n c) (inns ws n c) y j)) in
-          (q .0, leads-full n (caps W P J c) (nth L c) (outs ws n c) (inns ws n c) found y j (k .held (q .0) .1) p (q .1))
+          let q = k .passed y h (has-none y) (omega (arith, carry-up n (caps W P J c) (nth L c) (outs ws (nth J) c) (inns ws (nth J) c) y j)) in
+          (q .0, leads-full n (caps W P J c) (nth L c) (outs ws (nth J) c) (inns ws (nth J) c) found y j (k .held (q .0) .1) p (q .1))
 
   module _ {l found : ℕ} (k : Seeks W P J L n ws c x l found) (i : ℕ) {l′ : ℕ} (h : has l i ≡ true) (q : l′ ≡ l ∖ 2 ^ i) where
     less : l′ ⊆ x
@@ -203,10 +234,10 @@ module _ {W P J L : List ℕ} {n m : ℕ} {ws : List ℤ} {X a : ℕ} {Y : List 
   wide = ⊎-elim (g .sending .tree .wide i) (λ ne. g .sending .tree .link i (g .sending .held) ne .some) (true? (has X i))
 
 -- Nothing was passed yet: all that the column joins and that is not met lies ahead.
-pub pass-start : {W P J L : List ℕ} {n m : ℕ} {ws : List ℤ} {X a : ℕ} {Y U : List ℕ} {i : ℕ} (c : ℕ) → Ready W P J L n m ws U → Rooted W P J L n m ws X a Y → c < m → has a i ≡ true
-    → Passed W P J L n m ws X a a Y i c (nth J c ∖ a)
+pub pass-start : {W P J L F : List ℕ} {n m : ℕ} {ws : List ℤ} {X a : ℕ} {Y U : List ℕ} {i : ℕ} (c : ℕ) → Ready W P J L F n m ws U → Rooted W P J L n m ws X a Y → c < m → has a i ≡ true
+    → Passed W P J L n m ws X a a Y i c (turnOf Y i + 1) (nth J c ∖ a)
 pass-start {J = J} {a = a} {i = i} c r g bc h = record {
-  tree = record { sending = send-start (g .sweeping) h; long = g .long };
+  tree = record { sending = send-start (g .sweeping) h (omega arith) (omega (arith, g .sweeping .turns i h)); long = g .long };
   keeps = λ x k. k;
   into = λ x b k p. off-none (nth J c) a x k (hop-joins r bc (g .sweeping .tree .low i h) b p .1);
 }
@@ -216,12 +247,17 @@ pub others : {a a′ j i c t k : ℕ} {Y Y′ : List ℕ} → Offered a Y a′ Y
 others (stays z q f) x ne = ap (λ (y : ℕ). has y x) q
 others (joins z e jd ls) x ne = jd .set-off x ne
 
+-- Nor does it change the way to them.
+pub other-width : {a a′ j i c t k : ℕ} {Y Y′ : List ℕ} → Offered a Y a′ Y′ j i c t k → (x : ℕ) → x ≢ j → widthOf Y′ x ≡ widthOf Y x
+other-width (stays z q f) x ne = ap (λ (Z : List ℕ). widthOf Z x) f
+other-width (joins z e jd ls) x ne = jd .width-off x ne
+
 more : (a j : ℕ) → has a j ≡ false → j < 64 → count 64 (a ∪ 2 ^ j) ≡ count 64 a + 1
 more a j new b = count-insert 64 b (λ p. true≢false (sym (p .is) ∙ new))
 
-module _ {W P J L : List ℕ} {n m : ℕ} {ws : List ℤ} {X a i a′ a″ : ℕ} {Y′ Y″ : List ℕ} {c j k l : ℕ}
-    (p : Passed W P J L n m ws X a a′ Y′ i c l) (bc : c < m) (bj : j < n) (b64 : j < 64) (new : has a′ j ≡ false) (e : k ≡ min (carried W P J L n ws c i j) (widthOf Y′ i)) where
-  grown : Offered a′ Y′ a″ Y″ j i c (count 64 a) k → (Grow W P J L n m ws X a″ Y″ i c (count 64 a)) × ((x : ℕ) → has a′ x ≡ true → has a″ x ≡ true) × (0 < carried W P J L n ws c i j → has a″ j ≡ true)
+module _ {W P J L : List ℕ} {n m : ℕ} {ws : List ℤ} {X a i a′ a″ : ℕ} {Y′ Y″ : List ℕ} {c j t k l : ℕ}
+    (p : Passed W P J L n m ws X a a′ Y′ i c t l) (bc : c < m) (bj : j < n) (b64 : j < 64) (new : has a′ j ≡ false) (e : k ≡ min (carried W P J L n ws c i j) (widthOf Y′ i)) where
+  grown : Offered a′ Y′ a″ Y″ j i c t k → (Grow W P J L n m ws X a″ Y″ i c t) × ((x : ℕ) → has a′ x ≡ true → has a″ x ≡ true) × (0 < carried W P J L n ws c i j → has a″ j ≡ true)
   grown (stays z q f) = (rw (q, f) (p .tree), λ x y. ap (λ (z : ℕ). has z x) q ∙ y, λ p0. absurd (omega (arith, wide (p .tree))))
   grown (joins z q jd ls) = (
     record { sending = rw (q, more a′ j new b64) (send-join (p .tree .sending) (rw q at jd) new bj bc z (omega arith) (omega arith)); long = ls },
@@ -230,7 +266,7 @@ module _ {W P J L : List ℕ} {n m : ℕ} {ws : List ℤ} {X a i a′ a″ : ℕ
   )
 
   -- One taxon further.
-  pub pass-one : Offered a′ Y′ a″ Y″ j i c (count 64 a) k → {l′ : ℕ} → l′ ≡ l ∖ 2 ^ j → Passed W P J L n m ws X a a″ Y″ i c l′
+  pub pass-one : Offered a′ Y′ a″ Y″ j i c t k → {l′ : ℕ} → l′ ≡ l ∖ 2 ^ j → Passed W P J L n m ws X a a″ Y″ i c t l′
   pass-one o {l′} q =
       let g = grown o in
       record {
@@ -241,7 +277,7 @@ module _ {W P J L : List ℕ} {n m : ℕ} {ws : List ℤ} {X a i a′ a″ : ℕ
 
 -- ---- one column
 
-module _ {W P J L : List ℕ} {n m : ℕ} {ws : List ℤ} {X : ℕ} {U : List ℕ} (r : Ready W P J L n m ws U) {a c : ℕ} (bc : c < m) where
+module _ {W P J L F : List ℕ} {n m : ℕ} {ws : List ℤ} {X : ℕ} {U : List ℕ} (r : Ready W P J L F n m ws U) {a c : ℕ} (bc : c < m) where
   module _ {Y : List ℕ} (g : Rooted W P J L n m ws X a Y) where
     -- All that it joins is met ..
     pub cross-full : nth J c ⊆ a → Crossed W P J L n m ws X a a Y c
@@ -260,7 +296,7 @@ module _ {W P J L : List ℕ} {n m : ℕ} {ws : List ℤ} {X : ℕ} {U : List �
     cross-none l = record { tree = g; keeps = λ x k. k; into = λ y x k b p. absurd (l .sends y x (here y x k b p) p .0 refl) }
 
     -- .. or the sender's hops lead wherever the others lead.
-    pub cross : {a′ i : ℕ} {Y′ : List ℕ} → Leads W P J L n ws c (nth J c ∩ a) i → Passed W P J L n m ws X a a′ Y′ i c 0 → Crossed W P J L n m ws X a a′ Y′ c
+    pub cross : {a′ i t : ℕ} {Y′ : List ℕ} → Leads W P J L n ws c (nth J c ∩ a) i → Passed W P J L n m ws X a a′ Y′ i c t 0 → Crossed W P J L n m ws X a a′ Y′ c
     cross l p = record {
       tree = record { sweeping = send-end (p .tree .sending) (λ j b. p .into j b (has-none j)); long = p .tree .long };
       keeps = p .keeps;
@@ -352,7 +388,7 @@ module _ {W P J L : List ℕ} {n m : ℕ} {ws : List ℤ} {X : ℕ} where
   }
 
   -- A whole sweep that met nobody new.
-  pub swept-all : {a a′ goal : ℕ} {Y U : List ℕ} → Ready W P J L n m ws U → Swept W P J L n m ws X a a′ Y goal 0 → a′ ≤ a → Found W P J L n m ws X a Y goal
+  pub swept-all : {a a′ goal : ℕ} {Y U F : List ℕ} → Ready W P J L F n m ws U → Swept W P J L n m ws X a a′ Y goal 0 → a′ ≤ a → Found W P J L n m ws X a Y goal
   swept-all {a} {a′} {goal} {Y} r v le = rw e at (found v)
     where
       e : a′ ≡ a

@@ -1,102 +1,154 @@
--- Laws of the workspace: each pair has a place of its own below n * m, a hop changes two places, and only places of pairs change.
-use mathlib.Core.Path.{_≡_, refl, ap, _∙_}
+-- Laws of the workspace: each joined pair has a place of its own, a hop changes two places, and only places of pairs change.
+use mathlib.Core.Path.{_≡_, refl, sym, ap, ap₂, _∙_}
+use mathlib.Core.Bool.{Bool, true, false, cond}
 use mathlib.Core.List.{List, [], _∷_, _++_}
 use mathlib.Core.Logic.{_≢_}
-use Prim.Native.Nat.{ℕ, zero, suc, _+_, _-_, _*_, _≤_, _<_}
-use native.Mathlib.Nat.{mul-le-mul-right, suc-mul, mul-comm, not-suc-le-zero, le-of-suc-le-suc}
+use Prim.Native.Nat.{ℕ, zero, suc, _+_, _-_, _≤_, _<_}
+use native.Mathlib.Nat.{not-suc-le-zero, le-of-suc-le-suc}
 use native.Mathlib.Numerals.{add-one}
 use native.Mathlib.Decide.{decLt}
 use native.Mathlib.Omega.{arith}
 use lib.IntN.{ℤ, pos, _+ℤ_, _-ℤ_}
 use lib.ListN.{length, getD, set, drop, replicate, length-set, length-append, length-replicate, length-drop, getD-replicate, List·getD-append}
 use lib.Seq.{getD-set-same, getD-set-other, drop-set-lt}
+use Rattle.taxa.specs.Sets.{has, count, sizes}
+use Rattle.taxa.proofs.Ranks.{rank-less, sizes-next, sizes-mono}
 use Rattle.search.specs.Signed.{outOf, innOf, Diff}
-use Rattle.search.specs.Workspace.{slot, outs, inns, cleared, sent, Kept, CanSend, CanHop}
+use Rattle.search.specs.Workspace.{slot, IsColumn, netFlow, outs, inns, cleared, sent, Clear, Kept, CanSend}
+use Rattle.search.specs.Network.{nth, CanHop}
 use Rattle.method.proofs.Carry.{Hopped}
 use Rattle.search.proofs.Signed.{add, sub}
 
--- ---- slots
+-- ---- places
 
-pub slot-lt : (n m c i : ℕ) → c < m → i < n → slot n c i < n * m
+module _ (row : ℕ → ℕ) where
+  -- The places of a column are before those of the columns after it,
+  slot-here : (c i : ℕ) → i < 64 → has (row c) i ≡ true → slot row c i < sizes (c + 1) row
+  unfolding slot
+  slot-here c i b h = omega (arith, sizes-next row c, rank-less {i = i} {x = row c} (record { is = h }) b)
+
+  pub slot-lt : (m c i : ℕ) → c < m → i < 64 → has (row c) i ≡ true → slot row c i < sizes m row
+  slot-lt m c i bc b h = omega (arith, slot-here c i b h, sizes-mono row {c = c + 1} {m = m} (omega arith))
+
+  slot-column : (c e i x : ℕ) → i < 64 → has (row c) i ≡ true → c < e → slot row c i < slot row e x
+  unfolding slot
+  slot-column c e i x b h l = omega (arith, slot-here c i b h, sizes-mono row {c = c + 1} {m = e} (omega arith))
+
+  -- and in it they go by taxon.
+  slot-taxon : (c i x : ℕ) → has (row c) i ≡ true → i < x → slot row c i < slot row c x
+  unfolding slot
+  slot-taxon c i x h l = omega (arith, rank-less {i = i} {x = row c} (record { is = h }) l)
+
+  -- Another pair has another place.
+  pub slot-injective : (c e i x : ℕ) → i < 64 → x < 64 → has (row c) i ≡ true → has (row e) x ≡ true → slot row c i ≡ slot row e x → (c ≡ e) × (i ≡ x)
+  slot-injective c e i x bi bx hi hx q = go (decLt c e) (decLt e c)
+    where
+      taxon : c ≡ e → Dec (i < x) → Dec (x < i) → i ≡ x
+      taxon p (yes l) b = absurd (omega (arith, slot-taxon c i x hi l, ap (λ (k : ℕ). slot row k x) p))
+      taxon p (no a) (yes l) = absurd (omega (arith, slot-taxon e x i hx l, ap (λ (k : ℕ). slot row k i) p))
+      taxon p (no a) (no b) = omega arith
+
+      go : Dec (c < e) → Dec (e < c) → (c ≡ e) × (i ≡ x)
+      go (yes a) b = absurd (omega (arith, slot-column c e i x bi hi a))
+      go (no a) (yes b) = absurd (omega (arith, slot-column e c x i bx hx b))
+      go (no a) (no b) = let p : c ≡ e = omega arith in (p, taxon p (decLt i x) (decLt x i))
+
+-- The place, from what is known of the column.
+pub column-place : {row : ℕ → ℕ} {c joined offset : ℕ} (i : ℕ) → IsColumn row c joined offset → offset + count i joined ≡ slot row c i
 unfolding slot
-slot-lt n m c i bc bi = omega (arith, suc-mul c n, mul-le-mul-right n bc, mul-comm n m)
+column-place i k = ap₂ (λ (x y : ℕ). x + count i y) (k .is-offset) (k .is-joined)
 
-slot-less : (n c e i x : ℕ) → i < n → c < e → slot n c i < slot n e x
-unfolding slot
-slot-less n c e i x bi l = omega (arith, suc-mul c n, mul-le-mul-right n l)
+-- ---- net flows
 
-slot-taxon : (n : ℕ) {c e : ℕ} (i x : ℕ) → c ≡ e → slot n c i ≡ slot n e x → i ≡ x
-unfolding slot
-slot-taxon n i x p q = omega (arith, ap (λ (k : ℕ). k * n) p)
+module _ (ws : List ℤ) (row : ℕ → ℕ) (c i : ℕ) where
+  pub net-joined : has (row c) i ≡ true → netFlow ws row c i ≡ getD ws (slot row c i) (pos 0)
+  unfolding netFlow
+  net-joined h = ap (λ (p : Bool). cond p (getD ws (slot row c i) (pos 0)) (pos 0)) h
 
--- Another pair has another slot.
-pub slot-injective : (n : ℕ) {c e i x : ℕ} → i < n → x < n → slot n c i ≡ slot n e x → (c ≡ e) × (i ≡ x)
-slot-injective n {c} {e} {i} {x} bi bx q = go (decLt c e) (decLt e c)
+  pub net-none : has (row c) i ≡ false → netFlow ws row c i ≡ pos 0
+  unfolding netFlow
+  net-none h = ap (λ (p : Bool). cond p (getD ws (slot row c i) (pos 0)) (pos 0)) h
+
+-- The net flow of a pair is the same where its place, if it has one, holds the same.
+net-same : (ws ws′ : List ℤ) (row : ℕ → ℕ) (c i : ℕ) → (has (row c) i ≡ true → getD ws′ (slot row c i) (pos 0) ≡ getD ws (slot row c i) (pos 0)) → netFlow ws′ row c i ≡ netFlow ws row c i
+net-same ws ws′ row c i same = go (has (row c) i) refl
   where
-    go : Dec (c < e) → Dec (e < c) → (c ≡ e) × (i ≡ x)
-    go (yes a) b = absurd (omega (arith, slot-less n c e i x bi a))
-    go (no a) (yes b) = absurd (omega (arith, slot-less n e c x i bx b))
-    go (no a) (no b) = let p : c ≡ e = omega arith in (p, slot-taxon n i x p q)
+    go : (p : Bool) → has (row c) i ≡ p → netFlow ws′ row c i ≡ netFlow ws row c i
+    go true h = net-joined ws′ row c i h ∙ same h ∙ sym (net-joined ws row c i h)
+    go false h = net-none ws′ row c i h ∙ sym (net-none ws row c i h)
 
 -- ---- a hop
 
-module _ (ws : List ℤ) (n m c i j d : ℕ) (bc : c < m) (bi : i < n) (bj : j < n) (ne : i ≢ j) (places : n * m ≤ length ws) where
-  fi : ℤ
-  fi = getD ws (slot n c i) (pos 0)
+module _ (ws : List ℤ) (J F : List ℕ) (c i j d : ℕ) (can : CanHop J F ws c i j d) where
+  abbrev a : ℕ
+  a = slot (nth J) c i
 
-  fj : ℤ
-  fj = getD ws (slot n c j) (pos 0)
+  abbrev b : ℕ
+  b = slot (nth J) c j
 
   first : List ℤ
-  first = set ws (slot n c i) (getD ws (slot n c i) (pos 0) +ℤ pos d)
+  first = set ws a (getD ws a (pos 0) +ℤ pos d)
 
-  after : List ℤ
-  after = sent ws (slot n c i) (slot n c j) d
+  pub places-apart : a ≢ b
+  places-apart e = can .apart (slot-injective (nth J) c c i j (can .from .taxon) (can .to .taxon) (can .from .joins) (can .to .joins) e .1)
 
-  at-j : getD after (slot n c j) (pos 0) ≡ fj -ℤ pos d
-  unfolding after fj first
-  at-j = getD-set-same first (slot n c j) (fj -ℤ pos d) (pos 0) (omega (arith, slot-lt n m c j bc bj, length-set ws (slot n c i) (getD ws (slot n c i) (pos 0) +ℤ pos d)))
+  at-to : getD (sent ws a b d) b (pos 0) ≡ getD ws b (pos 0) -ℤ pos d
+  unfolding first
+  at-to = getD-set-same first b (getD ws b (pos 0) -ℤ pos d) (pos 0) (omega (arith, can .to .place, length-set ws a (getD ws a (pos 0) +ℤ pos d)))
 
-  at-i : getD after (slot n c i) (pos 0) ≡ fi +ℤ pos d
-  unfolding after fi first fj
-  at-i =
-      getD-set-other first (slot n c j) (slot n c i) (fj -ℤ pos d) (pos 0) (λ e. ne (slot-injective n bi bj e .1))
-      ∙ getD-set-same ws (slot n c i) (fi +ℤ pos d) (pos 0) (omega (arith, slot-lt n m c i bc bi))
+  at-from : getD (sent ws a b d) a (pos 0) ≡ getD ws a (pos 0) +ℤ pos d
+  unfolding first
+  at-from = getD-set-other first b a (getD ws b (pos 0) -ℤ pos d) (pos 0) places-apart ∙ getD-set-same ws a (getD ws a (pos 0) +ℤ pos d) (pos 0) (can .from .place)
 
-  at-other : (p : ℕ) → p ≢ slot n c i → p ≢ slot n c j → getD after p (pos 0) ≡ getD ws p (pos 0)
-  unfolding after fi first fj
-  at-other p a b = getD-set-other first (slot n c j) p (fj -ℤ pos d) (pos 0) b ∙ getD-set-other ws (slot n c i) p (fi +ℤ pos d) (pos 0) a
+  at-other : (p : ℕ) → p ≢ a → p ≢ b → getD (sent ws a b d) p (pos 0) ≡ getD ws p (pos 0)
+  unfolding first
+  at-other p na nb = getD-set-other first b p (getD ws b (pos 0) -ℤ pos d) (pos 0) nb ∙ getD-set-other ws a p (getD ws a (pos 0) +ℤ pos d) (pos 0) na
 
-  pub hopped : Hopped n m (outs ws n) (inns ws n) (outs (sent ws (slot n c i) (slot n c j) d) n) (inns (sent ws (slot n c i) (slot n c j) d) n) c i j d
-  unfolding outs inns after fi fj
-  hopped = record {
+  from-net : netFlow (sent ws a b d) (nth J) c i ≡ netFlow ws (nth J) c i +ℤ pos d
+  from-net = rw (net-joined ws (nth J) c i (can .from .joins), net-joined (sent ws a b d) (nth J) c i (can .from .joins)) at-from
+
+  to-net : netFlow (sent ws a b d) (nth J) c j ≡ netFlow ws (nth J) c j -ℤ pos d
+  to-net = rw (net-joined ws (nth J) c j (can .to .joins), net-joined (sent ws a b d) (nth J) c j (can .to .joins)) at-to
+
+  other-net : (e x : ℕ) → x < 64 → ((c ≡ e) → i ≢ x) → ((c ≡ e) → j ≢ x) → netFlow (sent ws a b d) (nth J) e x ≡ netFlow ws (nth J) e x
+  other-net e x bx ni nj =
+      net-same ws (sent ws a b d) (nth J) e x (λ h.
+      at-other (slot (nth J) e x)
+      (λ q. let (p, t) = slot-injective (nth J) c e i x (can .from .taxon) bx (can .from .joins) h (sym q) in ni p t)
+      (λ q. let (p, t) = slot-injective (nth J) c e j x (can .to .taxon) bx (can .to .joins) h (sym q) in nj p t))
+
+  plus : Diff (outs ws (nth J) c i + d) (inns ws (nth J) c i) (netFlow ws (nth J) c i +ℤ pos d)
+  unfolding outs inns
+  plus = let p = add (netFlow ws (nth J) c i) (pos d) in omega arith
+
+  minus : Diff (outs ws (nth J) c j) (inns ws (nth J) c j + d) (netFlow ws (nth J) c j -ℤ pos d)
+  unfolding outs inns
+  minus = let p = sub (netFlow ws (nth J) c j) (pos d) in omega arith
+
+  pub hopped : (n m : ℕ) → n ≤ 64 → Hopped n m (outs ws (nth J)) (inns ws (nth J)) (outs (sent ws a b d) (nth J)) (inns (sent ws a b d) (nth J)) c i j d
+  unfolding outs inns
+  hopped n m l = record {
     here = record {
-      from-out = ap outOf at-i ∙ plus .out;
-      from-inn = ap innOf at-i ∙ plus .inn;
-      to-out = ap outOf at-j ∙ minus .out;
-      to-inn = ap innOf at-j ∙ minus .inn;
-      rest-out = λ x b p q. ap outOf (at-other (slot n c x) (λ e. p (slot-injective n b bi e .1)) (λ e. q (slot-injective n b bj e .1)));
-      rest-inn = λ x b p q. ap innOf (at-other (slot n c x) (λ e. p (slot-injective n b bi e .1)) (λ e. q (slot-injective n b bj e .1)));
+      from-out = ap outOf from-net ∙ plus .out;
+      from-inn = ap innOf from-net ∙ plus .inn;
+      to-out = ap outOf to-net ∙ minus .out;
+      to-inn = ap innOf to-net ∙ minus .inn;
+      rest-out = λ x b p q. ap outOf (other-net c x (omega arith) (λ e t. p (sym t)) (λ e t. q (sym t)));
+      rest-inn = λ x b p q. ap innOf (other-net c x (omega arith) (λ e t. p (sym t)) (λ e t. q (sym t)));
     };
-    rest-out = λ e be q x b. ap outOf (at-other (slot n e x) (λ z. q (slot-injective n b bi z .0)) (λ z. q (slot-injective n b bj z .0)));
-    rest-inn = λ e be q x b. ap innOf (at-other (slot n e x) (λ z. q (slot-injective n b bi z .0)) (λ z. q (slot-injective n b bj z .0)));
+    rest-out = λ e be q x b. ap outOf (other-net e x (omega arith) (λ p. absurd (q (sym p))) (λ p. absurd (q (sym p))));
+    rest-inn = λ e be q x b. ap innOf (other-net e x (omega arith) (λ p. absurd (q (sym p))) (λ p. absurd (q (sym p))));
   }
-    where
-      plus : Diff (outOf fi + d) (innOf fi) (fi +ℤ pos d)
-      plus = let p = add fi (pos d) in omega arith
 
-      minus : Diff (outOf fj) (innOf fj + d) (fj -ℤ pos d)
-      minus = let p = sub fj (pos d) in omega arith
-
-pub can-send : {ws : List ℤ} {n m c i j d : ℕ} → CanHop ws n m c i j d → CanSend ws (slot n c i) (slot n c j) d
-unfolding outs inns
-can-send {ws} {n} {m} {c} {i} {j} {d} h = record {
-  from = omega (arith, slot-lt n m c i (h .column) (h .from), h .places);
-  to = omega (arith, slot-lt n m c j (h .column) (h .to), h .places);
-  apart = λ e. h .apart (slot-injective n (h .from) (h .to) e .1);
-  out = h .out;
-  inn = h .inn;
-}
+  pub can-send : CanSend ws a b d
+  unfolding outs inns
+  can-send = record {
+    from = can .from .place;
+    to = can .to .place;
+    apart = places-apart;
+    out = rw (net-joined ws (nth J) c i (can .from .joins)) at (can .out);
+    inn = rw (net-joined ws (nth J) c j (can .to .joins)) at (can .inn);
+  }
 
 -- ---- what is kept
 
@@ -137,16 +189,39 @@ cleared-kept {k} ws e l = rw e record {
 pub cleared-again : {k : ℕ} {ws ws′ : List ℤ} → Kept k ws ws′ → cleared k ws′ ≡ cleared k ws
 cleared-again {k} h = ap (λ (l : List ℤ). replicate k (pos 0) ++ l) (h .rest)
 
-module _ (n m : ℕ) (ws : List ℤ) (c i : ℕ) (bc : c < m) (bi : i < n) where
-  entry-0 : getD (cleared (n * m) ws) (slot n c i) (pos 0) ≡ pos 0
-  entry-0 =
-      List·getD-append (replicate (n * m) (pos 0)) (drop (n * m) ws) (pos 0) (slot n c i) (rw (length-replicate (n * m) (pos 0)) (slot-lt n m c i bc bi))
-      ∙ getD-replicate (n * m) (slot n c i) (pos 0) (pos 0) (slot-lt n m c i bc bi)
+-- Of numbers that are 0, fewer are.
+module _ {A : Type 0} where
+  fill-fewer : (j k : ℕ) (v : A) (l : List A) → j ≤ k → replicate j v ++ drop j (replicate k v ++ l) ≡ replicate k v ++ l
+  fill-fewer zero k v l b = refl
+  fill-fewer (suc j) zero v l b = absurd (not-suc-le-zero b)
+  fill-fewer (suc j) (suc k) v l b = ap (λ (t : List A). v ∷ t) (fill-fewer j k v l (le-of-suc-le-suc b))
 
-  pub out-0 : outs (cleared (n * m) ws) n c i ≡ 0
+pub clear-less : {j k : ℕ} {ws : List ℤ} → j ≤ k → Clear k ws → Clear j ws
+clear-less {j} {k} {ws} l h = record { long = omega (arith, h .long); is = ap (cleared j) (sym (h .is)) ∙ fill-fewer j k (pos 0) (drop k ws) l ∙ h .is }
+
+-- What was cleared is clear.
+pub cleared-clear : (k : ℕ) (ws : List ℤ) → k ≤ length ws → Clear k (cleared k ws)
+cleared-clear k ws l = record {
+  long = omega (arith, cleared-kept {k = k} ws refl l .long);
+  is = fill-fewer k k (pos 0) (drop k ws) (omega arith);
+}
+
+module _ (row : ℕ → ℕ) (m : ℕ) (ws : List ℤ) (c i : ℕ) (bc : c < m) (bi : i < 64) where
+  net-0 : netFlow (cleared (sizes m row) ws) row c i ≡ pos 0
+  net-0 = go (has (row c) i) refl
+    where
+      go : (p : Bool) → has (row c) i ≡ p → netFlow (cleared (sizes m row) ws) row c i ≡ pos 0
+      go false h = net-none (cleared (sizes m row) ws) row c i h
+      go true h =
+          let l = slot-lt row m c i bc bi h in
+          net-joined (cleared (sizes m row) ws) row c i h
+          ∙ List·getD-append (replicate (sizes m row) (pos 0)) (drop (sizes m row) ws) (pos 0) (slot row c i) (rw (length-replicate (sizes m row) (pos 0)) l)
+          ∙ getD-replicate (sizes m row) (slot row c i) (pos 0) (pos 0) l
+
+  pub out-0 : outs (cleared (sizes m row) ws) row c i ≡ 0
   unfolding outs
-  out-0 = ap outOf entry-0
+  out-0 = ap outOf net-0
 
-  pub inn-0 : inns (cleared (n * m) ws) n c i ≡ 0
+  pub inn-0 : inns (cleared (sizes m row) ws) row c i ≡ 0
   unfolding inns
-  inn-0 = ap innOf entry-0
+  inn-0 = ap innOf net-0

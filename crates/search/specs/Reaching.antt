@@ -3,7 +3,7 @@ use mathlib.Core.Path.{_≡_}
 use mathlib.Core.Bool.{true, false}
 use mathlib.Core.List.{List}
 use mathlib.Core.Logic.{_≢_, _↔_}
-use Prim.Native.Nat.{ℕ, _+_, _-_, _*_, _^_, _≤_, _<_}
+use Prim.Native.Nat.{ℕ, _+_, _-_, _*_, _^_, _≤_, _<_, max}
 use lib.IntN.{ℤ}
 use lib.ListN.{length}
 use Rattle.taxa.specs.Sets.{has, _∪_, count}
@@ -32,23 +32,23 @@ widthOf Y x = nth Y (4 * x + 3)
 
 -- What a hop from i to j through c carries, in the workspace.
 abbrev pub carried : List ℕ → List ℕ → List ℕ → List ℕ → ℕ → List ℤ → ℕ → ℕ → ℕ → ℕ
-carried W P J L n ws c i j = carry n (caps W P J c) (nth L c) (outs ws n c) (inns ws n c) i j
+carried W P J L n ws c i j = carry n (caps W P J c) (nth L c) (outs ws (nth J) c) (inns ws (nth J) c) i j
 
--- What a taxon i that column c joins finds there: the weight, what it can send, what it can turn back, and the column's room.
-pub record IsGate (W P L U : List ℕ) (n : ℕ) (ws : List ℤ) (c i weight sends back room : ℕ) : Type 0 where
+-- What a taxon i that column c joins finds there, with `out` that goes out or `inn` that comes in: the weight, what it can send, and what of that needs nothing turned
+-- back elsewhere: what it can turn back itself, or the column's room.
+pub record IsGate (W P L U : List ℕ) (c i out inn weight sends free : ℕ) : Type 0 where
   pub is-weight : weight ≡ nth W c
-  pub is-sends : sends ≡ arc W P c i + inns ws n c i - outs ws n c i
-  pub is-back : back ≡ inns ws n c i
-  pub is-room : room ≡ nth L c - nth U c
+  pub is-sends : sends ≡ arc W P c i + inn - out
+  pub is-free : free ≡ max inn (nth L c - nth U c)
 
 -- The tree of the taxa of a.
 pub record Rooted (W P J L : List ℕ) (n m : ℕ) (ws : List ℤ) (X a : ℕ) (Y : List ℕ) : Type 0 where
-  pub sweeping : Sweeping n m (caps W P J) (nth L) (outs ws n) (inns ws n) (has X) (has a) (fromOf Y) (viaOf Y) (turnOf Y) (widthOf Y) (count 64 a)
+  pub sweeping : Sweeping n m (caps W P J) (nth L) (outs ws (nth J)) (inns ws (nth J)) (has X) (has a) (fromOf Y) (viaOf Y) (turnOf Y) (widthOf Y) (count 64 a)
   pub long : length Y ≡ 256
 
 -- The same while taxon i sends through column c, and those that join get the turn t.
 pub record Grow (W P J L : List ℕ) (n m : ℕ) (ws : List ℤ) (X a : ℕ) (Y : List ℕ) (i c t : ℕ) : Type 0 where
-  pub sending : Sending n m (caps W P J) (nth L) (outs ws n) (inns ws n) (has X) (has a) (fromOf Y) (viaOf Y) (turnOf Y) (widthOf Y) i c t (count 64 a)
+  pub sending : Sending n m (caps W P J) (nth L) (outs ws (nth J)) (inns ws (nth J)) (has X) (has a) (fromOf Y) (viaOf Y) (turnOf Y) (widthOf Y) i c t (count 64 a)
   pub long : length Y ≡ 256
 
 -- i is a taxon of x, and a hop from it through column c leads wherever one from a taxon of x leads; or i is 64, and none of them leads anywhere.
@@ -62,9 +62,9 @@ pub data Offered (a : ℕ) (Y : List ℕ) (a′ : ℕ) (Y′ : List ℕ) (j i c 
   joins : 0 < k → a′ ≡ a ∪ 2 ^ j → Joined (has a) (has a′) (fromOf Y) (viaOf Y) (turnOf Y) (widthOf Y) (fromOf Y′) (viaOf Y′) (turnOf Y′) (widthOf Y′) j i c t k → length Y′ ≡ 256
       → Offered a Y a′ Y′ j i c t k
 
--- The tree, of a before, after the hops of i through column c to all taxa but those of l.
-pub record Passed (W P J L : List ℕ) (n m : ℕ) (ws : List ℤ) (X a a′ : ℕ) (Y : List ℕ) (i c l : ℕ) : Type 0 where
-  pub tree : Grow W P J L n m ws X a′ Y i c (count 64 a)
+-- The tree, of a before, after the hops of i through column c to all taxa but those of l; those that joined have the turn t.
+pub record Passed (W P J L : List ℕ) (n m : ℕ) (ws : List ℤ) (X a a′ : ℕ) (Y : List ℕ) (i c t l : ℕ) : Type 0 where
+  pub tree : Grow W P J L n m ws X a′ Y i c t
   pub keeps : (x : ℕ) → has a x ≡ true → has a′ x ≡ true
   pub into : (x : ℕ) → x < n → has l x ≡ false → 0 < carried W P J L n ws c i x → has a′ x ≡ true
 
@@ -92,5 +92,5 @@ pub record Planted (Y : List ℕ) (X l : ℕ) : Type 0 where
 
 -- What reaching gives: a tree; and, where no taxon of the goal is in it, exactly the taxa that hops lead to from those of X.
 pub record Found (W P J L : List ℕ) (n m : ℕ) (ws : List ℤ) (X a : ℕ) (Y : List ℕ) (goal : ℕ) : Type 0 where
-  pub tree : Tree n m (caps W P J) (nth L) (outs ws n) (inns ws n) (has X) (has a) (fromOf Y) (viaOf Y) (turnOf Y) (widthOf Y)
-  pub all : Missed goal a → (j : ℕ) → j < n → has a j ≡ true ↔ ReachFrom n m (caps W P J) (nth L) (outs ws n) (inns ws n) (has X) j
+  pub tree : Tree n m (caps W P J) (nth L) (outs ws (nth J)) (inns ws (nth J)) (has X) (has a) (fromOf Y) (viaOf Y) (turnOf Y) (widthOf Y)
+  pub all : Missed goal a → (j : ℕ) → j < n → has a j ≡ true ↔ ReachFrom n m (caps W P J) (nth L) (outs ws (nth J)) (inns ws (nth J)) (has X) j

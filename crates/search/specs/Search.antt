@@ -8,7 +8,7 @@ use lib.IntN.{ℤ}
 use lib.ListN.{length}
 use Rattle.taxa.specs.Sets.{has, count, low, Positive, multiplicityIn, Tabled}
 use Rattle.method.specs.Split.{Column, divisionCost, side, parted}
-use Rattle.method.specs.Flow.{cap, through, Flow, Reach}
+use Rattle.method.specs.Flow.{joined, cap, through, Flow, Reach}
 use Rattle.search.specs.Workspace.{outs, inns}
 use Rattle.search.specs.Network.{nth}
 
@@ -37,11 +37,15 @@ module _ (W P O Z : List ℕ) (S n m : ℕ) where
   abbrev pub throughOf : ℕ → ℕ
   throughOf c = through n (multiplicityIn P) S (colsOf W O Z c)
 
+  -- The taxa that each column joins in S.
+  abbrev pub joinsOf : ℕ → ℕ
+  joinsOf c = joined 64 S (colsOf W O Z c)
+
   -- "before it is cleared, the workspace holds a flow of the division's cost from s to t, and side A is the taxa still reachable from s past that
   -- flow"; and cost, A and t are what listing every division gives.
   pub record DividedByFlow (ws : List ℤ) (k t A : ℕ) : Type 0 where
-    pub flow : Flow n m capsOf throughOf (outs ws n) (inns ws n) (low n S) t k
-    pub reached : (i : ℕ) → i < n → has A i ≡ true ↔ Reach n m capsOf throughOf (outs ws n) (inns ws n) (low n S) i
+    pub flow : Flow n m capsOf throughOf (outs ws joinsOf) (inns ws joinsOf) (low n S) t k
+    pub reached : (i : ℕ) → i < n → has A i ≡ true ↔ Reach n m capsOf throughOf (outs ws joinsOf) (inns ws joinsOf) (low n S) i
     pub is-side : A ≡ side n (multiplicityIn P) m (colsOf W O Z) S
     pub is-cost : k ≡ divisionCost n (multiplicityIn P) m (colsOf W O Z) S A
     pub is-parted : t ≡ parted n S A

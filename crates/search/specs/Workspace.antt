@@ -1,27 +1,44 @@
--- "The workspace is a lent run of signed 32-bit numbers, at least n x m long": where the net flow of a pair stands, and what may change.
+-- "The workspace is a lent run of signed 32-bit numbers", "one number for each 1 in the matrix" (document 02, C-13): where the net flow of a pair stands, and
+-- what may change. `row` has the taxa that each column joins: a flow runs between those pairs only.
 use mathlib.Core.Path.{_≡_}
+use mathlib.Core.Bool.{cond}
 use mathlib.Core.List.{List, _++_}
 use mathlib.Core.Logic.{_≢_}
-use Prim.Native.Nat.{ℕ, _+_, _-_, _*_, _^_, _≤_, _<_}
+use Prim.Native.Nat.{ℕ, _+_, _-_, _^_, _≤_, _<_}
 use lib.IntN.{ℤ, pos, _+ℤ_, _-ℤ_}
 use lib.ListN.{length, getD, set, drop, replicate}
+use Rattle.taxa.specs.Sets.{has, count, sizes}
 use Rattle.search.specs.Signed.{outOf, innOf}
 
--- The place of the pair of column c and taxon i.
-unfoldable pub slot : ℕ → ℕ → ℕ → ℕ
-slot n c i = c * n + i
+-- The place of the pair of column c and a taxon i that it joins: after all pairs of the columns before it, and those of its lower taxa.
+unfoldable pub slot : (ℕ → ℕ) → ℕ → ℕ → ℕ
+slot row c i = sizes c row + count i (row c)
+
+-- What column c joins, and where its places start.
+pub record IsColumn (row : ℕ → ℕ) (c joined offset : ℕ) : Type 0 where
+  pub is-joined : joined ≡ row c
+  pub is-offset : offset ≡ sizes c row
+
+-- The net flow of a pair of column c and taxon i; of one that is not joined, none.
+unfoldable pub netFlow : List ℤ → (ℕ → ℕ) → ℕ → ℕ → ℤ
+netFlow ws row c i = cond (has (row c) i) (getD ws (slot row c i) (pos 0)) (pos 0)
 
 -- What goes from taxon i into column c.
-unfoldable pub outs : List ℤ → ℕ → ℕ → ℕ → ℕ
-outs ws n c i = outOf (getD ws (slot n c i) (pos 0))
+unfoldable pub outs : List ℤ → (ℕ → ℕ) → ℕ → ℕ → ℕ
+outs ws row c i = outOf (netFlow ws row c i)
 
 -- What comes from column c into taxon i.
-unfoldable pub inns : List ℤ → ℕ → ℕ → ℕ → ℕ
-inns ws n c i = innOf (getD ws (slot n c i) (pos 0))
+unfoldable pub inns : List ℤ → (ℕ → ℕ) → ℕ → ℕ → ℕ
+inns ws row c i = innOf (netFlow ws row c i)
 
 -- The first k numbers 0, "the rest untouched".
 abbrev pub cleared : ℕ → List ℤ → List ℤ
 cleared k ws = replicate k (pos 0) ++ drop k ws
+
+-- The first k numbers are 0.
+pub record Clear (k : ℕ) (ws : List ℤ) : Type 0 where
+  pub long : k ≤ length ws
+  pub is : cleared k ws ≡ ws
 
 -- Only the first k numbers may have changed.
 pub record Kept (k : ℕ) (ws ws′ : List ℤ) : Type 0 where
@@ -39,19 +56,3 @@ pub record CanSend (ws : List ℤ) (a b d : ℕ) : Type 0 where
   pub apart : a ≢ b
   pub out : outOf (getD ws a (pos 0)) + d < 2 ^ 31
   pub inn : innOf (getD ws b (pos 0)) + d < 2 ^ 31
-
--- An entry of at most w either way.
-pub record Entry (ws : List ℤ) (n c i w : ℕ) : Type 0 where
-  pub place : slot n c i < length ws
-  pub out : outs ws n c i ≤ w
-  pub inn : inns ws n c i ≤ w
-
--- Another d from taxon i to taxon j through column c: what it asks of the places.
-pub record CanHop (ws : List ℤ) (n m c i j d : ℕ) : Type 0 where
-  pub places : n * m ≤ length ws
-  pub column : c < m
-  pub from : i < n
-  pub to : j < n
-  pub apart : i ≢ j
-  pub out : outs ws n c i + d < 2 ^ 31
-  pub inn : inns ws n c j + d < 2 ^ 31

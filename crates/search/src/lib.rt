@@ -10,11 +10,12 @@ ghost use mathlib.Core.Bool.{cond};
 ghost use Prim.Native.Nat.{_+_, _*_, _≤_, _<_, _^_};
 ghost use lib.Dec.{ltb};
 ghost use lib.ListN.{length};
-ghost use Rattle.taxa.specs.Sets.{count, low};
+ghost use Rattle.taxa.specs.Sets.{count, sizes, low};
+ghost use Rattle.method.specs.Flow.{arcCount};
 ghost use Rattle.search.specs.Workspace.{cleared, Kept};
-ghost use Rattle.search.specs.Network.{Net, Spare, Lent};
+ghost use Rattle.search.specs.Network.{nth, Offsets, Net, Spare, Lent};
 ghost use Rattle.search.specs.Flows.{Side};
-ghost use Rattle.search.specs.Search.{Given, DividedByFlow};
+ghost use Rattle.search.specs.Search.{colsOf, Given, DividedByFlow};
 ghost use Rattle.search.specs.Trying as trying;
 ghost use Rattle.search.specs.Trying.{ties, Joins, Limits, Tried};
 
@@ -50,8 +51,22 @@ fn network_of(
     for c in 0..m {
         let z = taxa::common(zeros[c], group);
         joined[c] = unless_none(z, taxa::common(ones[c], group));
-        limits[c] = reach::wide(weights[c]) * taxa::mass_in(planes, z);
+        limits[c] = net::wide(weights[c]) * taxa::mass_in(planes, z);
     }
+}
+
+// Where each column's places in the workspace start, and after them how many numbers all columns take: that many are returned.
+fn offsets_of(joined: &[u64; 256], m: usize, offsets: &mut [u16; 257]) -> usize
+    requires { ⌜ (m ≤ 256) × (length (now offsets) ≡ 257) ⌝ }
+    ensures { λ r. ⌜ Offsets (now (joined .entry)) (now (offsets .exit)) m × (r ≡ sizes m (nth (now (joined .entry)))) ⌝ }
+{
+    let mut sum: u16 = 0;
+    for c in 0..m {
+        offsets[c] = sum;
+        sum = sum + taxa::size(joined[c]) as u16;
+    }
+    offsets[m] = sum;
+    sum as usize
 }
 
 // The taxa that hops reach from the sources past no flow.
@@ -60,6 +75,7 @@ fn connected(
     planes: &[u64; 72],
     joined: &[u64; 256],
     limits: &[u32; 256],
+    offsets: &[u16; 257],
     n: usize,
     m: usize,
     ws: &mut [i32],
@@ -67,13 +83,13 @@ fn connected(
     tree: &mut [u32; 256],
     sources: u64,
 ) -> u64
-    requires { ⌜ Net (now weights) (now planes) (now joined) (now limits) n m × (n * m ≤ length (now ws)) × (sources < 2 ^ n) × Spare (now used) (now tree) ⌝ }
+    requires { ⌜ Net (now weights) (now planes) (now joined) (now limits) (now offsets) n m × (sizes m (nth (now joined)) ≤ length (now ws)) × (sources < 2 ^ n) × Spare (now used) (now tree) ⌝ }
     ensures { λ r. ⌜
         Side (now (weights .entry)) (now (planes .entry)) (now (joined .entry)) (now (limits .entry)) n m (now (ws .exit)) sources r
-        × (now (ws .exit) ≡ cleared (n * m) (now (ws .entry)))
+        × (now (ws .exit) ≡ cleared (sizes m (nth (now (joined .entry)))) (now (ws .entry)))
         × Spare (now (used .exit)) (now (tree .exit)) ⌝ }
 {
-    net::clear(ws, n * m);
+    net::clear_places(ws, offsets, m);
     push::unused(used, m);
     // No path came before: the first sweep is left out, and whole ones do.
     reach::reach(
@@ -81,6 +97,7 @@ fn connected(
         planes,
         joined,
         limits,
+        offsets,
         n,
         m,
         ws,
@@ -107,7 +124,7 @@ fn tie(weight: u16, joined: u64, lower: u64, u: usize) -> u32
         return 0;
     }
     if 0 < taxa::common(joined, lower) {
-        reach::wide(weight)
+        net::wide(weight)
     } else {
         0
     }
@@ -132,6 +149,7 @@ fn attempt(
     planes: &[u64; 72],
     joined: &[u64; 256],
     limits: &[u32; 256],
+    offsets: &[u16; 257],
     group: u64,
     n: usize,
     m: usize,
@@ -142,8 +160,8 @@ fn attempt(
     u: usize,
 ) -> Best
     requires { ⌜
-        Net (now weights) (now planes) (now joined) (now limits) n m
-        × (n * m ≤ length (now ws))
+        Net (now weights) (now planes) (now joined) (now limits) (now offsets) n m
+        × (sizes m (nth (now joined)) ≤ length (now ws))
         × (group < 2 ^ n)
         × (low n group < u)
         × (u < n)
@@ -151,7 +169,7 @@ fn attempt(
         × Spare (now used) (now tree) ⌝ }
     ensures { λ r. ⌜
         Tried (now (weights .entry)) (now (planes .entry)) (now (joined .entry)) (now (limits .entry)) n m group (low n group) (u + 1) (r .cost) (r .other)
-        × Kept (n * m) (now (ws .entry)) (now (ws .exit))
+        × Kept (sizes m (nth (now (joined .entry)))) (now (ws .entry)) (now (ws .exit))
         × Spare (now (used .exit)) (now (tree .exit)) ⌝ }
 {
     if !taxa::contains(group, u as u32) {
@@ -166,6 +184,7 @@ fn attempt(
         planes,
         joined,
         limits,
+        offsets,
         n,
         m,
         ws,
@@ -191,6 +210,7 @@ fn cheapest(
     planes: &[u64; 72],
     joined: &[u64; 256],
     limits: &[u32; 256],
+    offsets: &[u16; 257],
     group: u64,
     n: usize,
     m: usize,
@@ -199,14 +219,14 @@ fn cheapest(
     tree: &mut [u32; 256],
 ) -> Best
     requires { ⌜
-        Net (now weights) (now planes) (now joined) (now limits) n m
-        × (n * m ≤ length (now ws))
+        Net (now weights) (now planes) (now joined) (now limits) (now offsets) n m
+        × (sizes m (nth (now joined)) ≤ length (now ws))
         × (group < 2 ^ n)
         × (1 < count n group)
         × Spare (now used) (now tree) ⌝ }
     ensures { λ r. ⌜
         Tried (now (weights .entry)) (now (planes .entry)) (now (joined .entry)) (now (limits .entry)) n m group (low n group) n (r .cost) (r .other)
-        × Kept (n * m) (now (ws .entry)) (now (ws .exit))
+        × Kept (sizes m (nth (now (joined .entry)))) (now (ws .entry)) (now (ws .exit))
         × Spare (now (used .exit)) (now (tree .exit)) ⌝ }
 {
     let source = taxa::single(taxa::lowest(group));
@@ -216,6 +236,7 @@ fn cheapest(
         planes,
         joined,
         limits,
+        offsets,
         n,
         m,
         ws,
@@ -235,6 +256,7 @@ fn cheapest(
             planes,
             joined,
             limits,
+            offsets,
             group,
             n,
             m,
@@ -248,11 +270,13 @@ fn cheapest(
     best
 }
 
-// What a division costs, the side A of the group's lowest taxon, and t, the lowest taxon of the other side.
+// What a division costs, the side A of the group's lowest taxon, and t, the lowest taxon of the other side; and how many numbers of the workspace the
+// search used.
 pub struct Split {
     pub cost: u32,
     pub side: u64,
     pub other: usize,
+    pub arcs: usize,
 }
 
 // The division that document 01 takes. Cost 0 is found without a flow; else the flow of the taxon that is parted stands in the workspace, run last.
@@ -267,35 +291,64 @@ pub fn divide(
     ws: &mut [i32],
     joined: &mut [u64; 256],
     limits: &mut [u32; 256],
+    offsets: &mut [u16; 257],
     used: &mut [u32; 256],
     tree: &mut [u32; 256],
 ) -> Split
     requires { ⌜
         Given (now weights) (now planes) (now ones) (now zeros) group n m
-        × (n * m ≤ length (now ws))
-        × Lent (now joined) (now limits) (now used) (now tree) ⌝ }
+        × (arcCount m (colsOf (now weights) (now ones) (now zeros)) group ≤ length (now ws))
+        × Lent (now joined) (now limits) (now offsets) (now used) (now tree) ⌝ }
     ensures { λ r. ⌜
         DividedByFlow (now (weights .entry)) (now (planes .entry)) (now (ones .entry)) (now (zeros .entry)) group n m (now (ws .exit)) (r .cost) (r .other) (r .side)
-        × Kept (n * m) (now (ws .entry)) (now (ws .exit))
-        × Lent (now (joined .exit)) (now (limits .exit)) (now (used .exit)) (now (tree .exit)) ⌝ }
+        × (r .arcs ≡ arcCount m (colsOf (now (weights .entry)) (now (ones .entry)) (now (zeros .entry))) group)
+        × Kept (arcCount m (colsOf (now (weights .entry)) (now (ones .entry)) (now (zeros .entry))) group) (now (ws .entry)) (now (ws .exit))
+        × Lent (now (joined .exit)) (now (limits .exit)) (now (offsets .exit)) (now (used .exit)) (now (tree .exit)) ⌝ }
 {
     network_of(weights, planes, ones, zeros, group, m, joined, limits);
+    let arcs = offsets_of(joined, m, offsets);
     let s = taxa::single(taxa::lowest(group));
-    let met = connected(weights, planes, joined, limits, n, m, ws, used, tree, s);
+    let met = connected(
+        weights,
+        planes,
+        joined,
+        limits,
+        offsets,
+        n,
+        m,
+        ws,
+        used,
+        tree,
+        s,
+    );
     let off = taxa::difference(group, met);
     if 0 < off {
         return Split {
             cost: 0,
             side: met,
             other: taxa::lowest(off) as usize,
+            arcs,
         };
     }
-    let t = cheapest(weights, planes, joined, limits, group, n, m, ws, used, tree).other;
+    let t = cheapest(
+        weights,
+        planes,
+        joined,
+        limits,
+        offsets,
+        group,
+        n,
+        m,
+        ws,
+        used,
+        tree,
+    ).other;
     let cut = push::largest(
         weights,
         planes,
         joined,
         limits,
+        offsets,
         n,
         m,
         ws,
@@ -309,5 +362,6 @@ pub fn divide(
         cost: cut.size,
         side: cut.side,
         other: t,
+        arcs,
     }
 }

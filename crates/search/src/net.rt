@@ -1,11 +1,13 @@
 // Net flows in the workspace. Only these functions do arithmetic on signed numbers; their contracts speak of what goes out and what comes in, in ℕ.
 ghost use mathlib.Core.Path.{_≡_};
-ghost use Prim.Native.Nat.{_+_, _*_, _≤_, _<_, _^_};
+ghost use mathlib.Core.Bool.{true};
+ghost use Prim.Native.Nat.{ℕ, _+_, _≤_, _<_, _^_};
 ghost use lib.IntN.{pos, _+ℤ_, _-ℤ_};
 ghost use lib.ListN.{length, getD, set};
+ghost use Rattle.taxa.specs.Sets.{has, count, sizes};
 ghost use Rattle.search.specs.Signed.{outOf, innOf, Diff};
-ghost use Rattle.search.specs.Workspace as workspace;
-ghost use Rattle.search.specs.Workspace.{outs, inns, cleared, sent, CanSend, CanHop, Kept};
+ghost use Rattle.search.specs.Workspace.{IsColumn, outs, inns, cleared, sent, CanSend, Kept};
+ghost use Rattle.search.specs.Network.{nth, CanHop};
 ghost use Rattle.method.proofs.Carry.{Hopped};
 
 // What goes out, where f is a flow out, or nothing.
@@ -73,38 +75,82 @@ pub fn clear(ws: &mut [i32], len: usize)
     }
 }
 
-// The place of the pair of column c and taxon i.
-pub fn slot(n: usize, c: usize, i: usize) -> usize
-    requires { ⌜ workspace.slot n c i < 2 ^ 64 ⌝ }
-    ensures { λ r. ⌜ r ≡ workspace.slot n c i ⌝ }
+pub fn wide(x: u16) -> u32
+    ensures { λ r. ⌜ (r ≡ x) × (r < 65536) ⌝ }
 {
-    c * n + i
+    x as u32
 }
 
-// What goes from taxon i into column c.
-pub fn out_in(ws: &[i32], n: usize, c: usize, i: usize) -> u32
-    requires { ⌜ workspace.slot n c i < length (now ws) ⌝ }
-    ensures { λ r. ⌜ r ≡ outs (now (ws .entry)) n c i ⌝ }
+// The places of the first m columns become 0, and the rest stay.
+pub fn clear_places(ws: &mut [i32], offsets: &[u16; 257], m: usize)
+    requires { ⌜ (m ≤ 256) × (nth (now offsets) m ≤ length (now ws)) ⌝ }
+    ensures { λ _. ⌜ now (ws .exit) ≡ cleared (nth (now (offsets .entry)) m) (now (ws .entry)) ⌝ }
 {
-    out_of(ws[slot(n, c, i)])
+    let places = wide(offsets[m]) as usize;
+    clear(ws, places);
 }
 
-// What comes from column c into taxon i.
-pub fn inn_in(ws: &[i32], n: usize, c: usize, i: usize) -> u32
-    requires { ⌜ workspace.slot n c i < length (now ws) ⌝ }
-    ensures { λ r. ⌜ r ≡ inns (now (ws .entry)) n c i ⌝ }
+// What a column joins, and where its places start.
+pub struct Column {
+    pub joined: u64,
+    pub offset: usize,
+}
+
+pub fn column_at(joined: &[u64; 256], offsets: &[u16; 257], c: usize) -> Column
+    requires { ⌜ (c < 256) × (nth (now offsets) c ≡ sizes c (nth (now joined))) ⌝ }
+    ensures { λ r. ⌜ IsColumn (nth (now (joined .entry))) c (r .joined) (r .offset) × (r .offset < 65536) ⌝ }
 {
-    inn_of(ws[slot(n, c, i)])
+    Column {
+        joined: joined[c],
+        offset: wide(offsets[c]) as usize,
+    }
+}
+
+// The place of the pair of a column and a taxon i that it joins.
+fn slot(column: Column, i: usize) -> usize
+    requires { ⌜ (i < 64) × (column .offset < 65536) ⌝ }
+    ensures { λ r. ⌜ r ≡ column .offset + count i (column .joined) ⌝ }
+{
+    column.offset + taxa::rank(column.joined, i as u32) as usize
+}
+
+// The net flow of a pair: what goes from the taxon into the column, or what comes from the column into the taxon.
+pub struct NetFlow {
+    pub out: u32,
+    pub inn: u32,
+}
+
+pub fn flow(ws: &[i32], column: Column, i: usize) -> NetFlow
+    requires { ⌜ (i < 64) × (column .offset < 65536) × (column .offset + count i (column .joined) < length (now ws)) ⌝ }
+    ensures { λ r. ⌜
+        ((row : ℕ → ℕ) (c : ℕ) → IsColumn row c (column .joined) (column .offset) → has (row c) i ≡ true
+        → (r .out ≡ outs (now (ws .entry)) row c i) × (r .inn ≡ inns (now (ws .entry)) row c i)) ⌝ }
+{
+    let f = ws[slot(column, i)];
+    NetFlow {
+        out: out_of(f),
+        inn: inn_of(f),
+    }
 }
 
 // d more from taxon i to taxon j through column c.
-pub fn hop(ws: &mut [i32], n: usize, m: usize, c: usize, i: usize, j: usize, d: u32)
-    requires { ⌜ CanHop (now ws) n m c i j d ⌝ }
+pub fn hop(
+    ws: &mut [i32],
+    joined: &[u64; 256],
+    offsets: &[u16; 257],
+    c: usize,
+    i: usize,
+    j: usize,
+    d: u32,
+)
+    requires { ⌜ CanHop (now joined) (now offsets) (now ws) c i j d ⌝ }
     ensures { λ _. ⌜
-        Hopped n m (outs (now (ws .entry)) n) (inns (now (ws .entry)) n) (outs (now (ws .exit)) n) (inns (now (ws .exit)) n) c i j d
-        × Kept (n * m) (now (ws .entry)) (now (ws .exit)) ⌝ }
+        ((n m : ℕ) → n ≤ 64 → Hopped n m (outs (now (ws .entry)) (nth (now (joined .entry)))) (inns (now (ws .entry)) (nth (now (joined .entry))))
+        (outs (now (ws .exit)) (nth (now (joined .entry)))) (inns (now (ws .exit)) (nth (now (joined .entry)))) c i j d)
+        × ((m : ℕ) → c < m → Kept (sizes m (nth (now (joined .entry)))) (now (ws .entry)) (now (ws .exit))) ⌝ }
 {
-    let a = slot(n, c, i);
-    let b = slot(n, c, j);
+    let column = column_at(joined, offsets, c);
+    let a = slot(column, i);
+    let b = slot(column, j);
     send(ws, a, b, d);
 }

@@ -3,34 +3,37 @@ use crate::net;
 use crate::reach;
 ghost use mathlib.Core.Path.{_≡_};
 ghost use mathlib.Core.Bool.{true, false};
-ghost use Prim.Native.Nat.{_+_, _*_, _^_, _≤_, _<_};
+ghost use Prim.Native.Nat.{ℕ, _+_, _*_, _^_, _≤_, _<_};
 ghost use lib.ListN.{length};
-ghost use Rattle.taxa.specs.Sets.{has};
-ghost use Rattle.search.specs.Workspace.{outs, inns, Kept, CanHop};
+ghost use Rattle.taxa.specs.Sets.{has, sizes};
+ghost use Rattle.search.specs.Workspace.{outs, inns, Kept};
 ghost use Rattle.method.proofs.Carry.{Hopped};
-ghost use Rattle.search.specs.Network.{Net, Spare, Unused};
+ghost use Rattle.search.specs.Network.{nth, CanHop, Net, Spare, Unused};
 ghost use Rattle.search.specs.Flows.{CanCount, Counted, Flowing, Advanced, Largest};
 
 // d more from taxon i to taxon j through column c, and the count of what runs through it with that.
 fn step(
     ws: &mut [i32],
     used: &mut [u32; 256],
+    joined: &[u64; 256],
+    offsets: &[u16; 257],
     n: usize,
-    m: usize,
     c: usize,
     i: usize,
     j: usize,
     d: u32,
 )
-    requires { ⌜ CanHop (now ws) n m c i j d × CanCount n (now ws) (now used) c d ⌝ }
+    requires { ⌜ CanHop (now joined) (now offsets) (now ws) c i j d × (n ≤ 64) × (i < n) × (j < n) × CanCount (now joined) n (now ws) (now used) c d ⌝ }
     ensures { λ _. ⌜
-        Hopped n m (outs (now (ws .entry)) n) (inns (now (ws .entry)) n) (outs (now (ws .exit)) n) (inns (now (ws .exit)) n) c i j d
-        × Kept (n * m) (now (ws .entry)) (now (ws .exit))
-        × Counted n (now (ws .exit)) (now (used .entry)) (now (used .exit)) c ⌝ }
+        ((m : ℕ) → Hopped n m (outs (now (ws .entry)) (nth (now (joined .entry)))) (inns (now (ws .entry)) (nth (now (joined .entry))))
+        (outs (now (ws .exit)) (nth (now (joined .entry)))) (inns (now (ws .exit)) (nth (now (joined .entry)))) c i j d)
+        × ((m : ℕ) → c < m → Kept (sizes m (nth (now (joined .entry)))) (now (ws .entry)) (now (ws .exit)))
+        × Counted (now (joined .entry)) n (now (ws .exit)) (now (used .entry)) (now (used .exit)) c ⌝ }
 {
-    let before = net::out_in(ws, n, c, i) + net::out_in(ws, n, c, j);
-    net::hop(ws, n, m, c, i, j, d);
-    let after = net::out_in(ws, n, c, i) + net::out_in(ws, n, c, j);
+    let column = net::column_at(joined, offsets, c);
+    let before = net::flow(ws, column, i).out + net::flow(ws, column, j).out;
+    net::hop(ws, joined, offsets, c, i, j, d);
+    let after = net::flow(ws, column, i).out + net::flow(ws, column, j).out;
     used[c] = used[c] + after - before;
 }
 
@@ -52,6 +55,7 @@ fn advance(
     planes: &[u64; 72],
     joined: &[u64; 256],
     limits: &[u32; 256],
+    offsets: &[u16; 257],
     n: usize,
     m: usize,
     ws: &mut [i32],
@@ -61,10 +65,10 @@ fn advance(
     t: usize,
     size: u32,
 ) -> Cut
-    requires { ⌜ Flowing (now weights) (now planes) (now joined) (now limits) n m (now ws) (now used) sources t size × (length (now tree) ≡ 256) ⌝ }
+    requires { ⌜ Flowing (now weights) (now planes) (now joined) (now limits) (now offsets) n m (now ws) (now used) sources t size × (length (now tree) ≡ 256) ⌝ }
     ensures { λ r. ⌜
-        Advanced (now (weights .entry)) (now (planes .entry)) (now (joined .entry)) (now (limits .entry)) n m (now (ws .exit)) (now (used .exit)) sources t size (r .size) (r .side)
-        × Kept (n * m) (now (ws .entry)) (now (ws .exit))
+        Advanced (now (weights .entry)) (now (planes .entry)) (now (joined .entry)) (now (limits .entry)) (now (offsets .entry)) n m (now (ws .exit)) (now (used .exit)) sources t size (r .size) (r .side)
+        × Kept (sizes m (nth (now (joined .entry)))) (now (ws .entry)) (now (ws .exit))
         × (length (now (tree .exit)) ≡ 256) ⌝ }
 {
     let goal = taxa::single(t as u32);
@@ -75,6 +79,7 @@ fn advance(
         planes,
         joined,
         limits,
+        offsets,
         n,
         m,
         ws,
@@ -96,7 +101,7 @@ fn advance(
     while 0 < tree[4 * j + 2] {
         let i = index(tree[4 * j]);
         let c = index(tree[4 * j + 1]);
-        step(ws, used, n, m, c, i, j, d);
+        step(ws, used, joined, offsets, n, c, i, j, d);
         j = i;
     }
     Cut {
@@ -111,6 +116,7 @@ fn direct_hop(
     planes: &[u64; 72],
     joined: &[u64; 256],
     limits: &[u32; 256],
+    offsets: &[u16; 257],
     n: usize,
     m: usize,
     ws: &mut [i32],
@@ -120,10 +126,10 @@ fn direct_hop(
     c: usize,
     size: u32,
 ) -> u32
-    requires { ⌜ Flowing (now weights) (now planes) (now joined) (now limits) n m (now ws) (now used) sources t size × (c < m) ⌝ }
+    requires { ⌜ Flowing (now weights) (now planes) (now joined) (now limits) (now offsets) n m (now ws) (now used) sources t size × (c < m) ⌝ }
     ensures { λ r. ⌜
-        Flowing (now (weights .entry)) (now (planes .entry)) (now (joined .entry)) (now (limits .entry)) n m (now (ws .exit)) (now (used .exit)) sources t r
-        × Kept (n * m) (now (ws .entry)) (now (ws .exit)) ⌝ }
+        Flowing (now (weights .entry)) (now (planes .entry)) (now (joined .entry)) (now (limits .entry)) (now (offsets .entry)) n m (now (ws .exit)) (now (used .exit)) sources t r
+        × Kept (sizes m (nth (now (joined .entry)))) (now (ws .entry)) (now (ws .exit)) ⌝ }
 {
     if !taxa::contains(joined[c], t as u32) {
         return size;
@@ -133,9 +139,11 @@ fn direct_hop(
         return size;
     }
     let i = taxa::lowest(here) as usize;
-    let g = reach::gate_at(weights, planes, limits, n, ws, used, c, i);
-    let d = reach::carry_to(g, planes, ws, n, c, t);
-    step(ws, used, n, m, c, i, t, d);
+    let column = net::column_at(joined, offsets, c);
+    let from = net::flow(ws, column, i);
+    let g = reach::gate_at(weights, planes, limits, used, c, i, from);
+    let d = reach::carry_to(g, planes, t, net::flow(ws, column, t));
+    step(ws, used, joined, offsets, n, c, i, t, d);
     size + d
 }
 
@@ -145,6 +153,7 @@ fn direct_hops(
     planes: &[u64; 72],
     joined: &[u64; 256],
     limits: &[u32; 256],
+    offsets: &[u16; 257],
     n: usize,
     m: usize,
     ws: &mut [i32],
@@ -152,10 +161,10 @@ fn direct_hops(
     sources: u64,
     t: usize,
 ) -> u32
-    requires { ⌜ Flowing (now weights) (now planes) (now joined) (now limits) n m (now ws) (now used) sources t 0 ⌝ }
+    requires { ⌜ Flowing (now weights) (now planes) (now joined) (now limits) (now offsets) n m (now ws) (now used) sources t 0 ⌝ }
     ensures { λ r. ⌜
-        Flowing (now (weights .entry)) (now (planes .entry)) (now (joined .entry)) (now (limits .entry)) n m (now (ws .exit)) (now (used .exit)) sources t r
-        × Kept (n * m) (now (ws .entry)) (now (ws .exit)) ⌝ }
+        Flowing (now (weights .entry)) (now (planes .entry)) (now (joined .entry)) (now (limits .entry)) (now (offsets .entry)) n m (now (ws .exit)) (now (used .exit)) sources t r
+        × Kept (sizes m (nth (now (joined .entry)))) (now (ws .entry)) (now (ws .exit)) ⌝ }
 {
     let mut size: u32 = 0;
     for c in 0..m {
@@ -164,6 +173,7 @@ fn direct_hops(
             planes,
             joined,
             limits,
+            offsets,
             n,
             m,
             ws,
@@ -205,6 +215,7 @@ pub fn largest(
     planes: &[u64; 72],
     joined: &[u64; 256],
     limits: &[u32; 256],
+    offsets: &[u16; 257],
     n: usize,
     m: usize,
     ws: &mut [i32],
@@ -215,20 +226,32 @@ pub fn largest(
     bound: u32,
 ) -> Cut
     requires { ⌜
-        Net (now weights) (now planes) (now joined) (now limits) n m
-        × (n * m ≤ length (now ws))
+        Net (now weights) (now planes) (now joined) (now limits) (now offsets) n m
+        × (sizes m (nth (now joined)) ≤ length (now ws))
         × (sources < 2 ^ n)
         × (t < n)
         × (has sources t ≡ false)
         × Spare (now used) (now tree) ⌝ }
     ensures { λ r. ⌜
         Largest (now (weights .entry)) (now (planes .entry)) (now (joined .entry)) (now (limits .entry)) n m (now (ws .exit)) sources t bound (r .size) (r .side)
-        × Kept (n * m) (now (ws .entry)) (now (ws .exit))
+        × Kept (sizes m (nth (now (joined .entry)))) (now (ws .entry)) (now (ws .exit))
         × Spare (now (used .exit)) (now (tree .exit)) ⌝ }
 {
-    net::clear(ws, n * m);
+    net::clear_places(ws, offsets, m);
     unused(used, m);
-    let size = direct_hops(weights, planes, joined, limits, n, m, ws, used, sources, t);
+    let size = direct_hops(
+        weights,
+        planes,
+        joined,
+        limits,
+        offsets,
+        n,
+        m,
+        ws,
+        used,
+        sources,
+        t,
+    );
     // t counts as reached: nothing is known of the side yet.
     let mut cut = Cut {
         size: size,
@@ -240,6 +263,7 @@ pub fn largest(
             planes,
             joined,
             limits,
+            offsets,
             n,
             m,
             ws,

@@ -1,15 +1,15 @@
 // The taxa that hops reach from a set of sources past the flow, by sweeps over the columns. How each was reached goes into a lent tree, four numbers to a taxon: from
 // which taxon, through which column, at which turn, and the least that a hop of the way carries.
 use crate::net;
+use crate::net::NetFlow;
 ghost use mathlib.Core.Path.{_≡_};
 ghost use mathlib.Core.Bool.{true, false};
 ghost use Prim.Native.Nat.{_+_, _-_, _*_, _≤_, _<_, _^_, min, max};
 ghost use lib.ListN.{length};
 ghost use Rattle.taxa.specs.Sets.{has, _⊆_, multiplicityIn, Tabled};
-ghost use Rattle.search.specs.Workspace.{outs, inns, Entry};
 ghost use Rattle.search.specs.Network as network;
 ghost use Rattle.search.specs.Network.{nth, Ready};
-ghost use Rattle.search.specs.Reaching.{IsGate, Rooted, Leads, Offered, Passed, Crossed, Missed, Swept, Planted, Found};
+ghost use Rattle.search.specs.Reaching.{turnOf, IsGate, Rooted, Leads, Offered, Passed, Crossed, Missed, Swept, Planted, Found};
 
 fn greatest(x: u32, y: u32) -> u32
     ensures { λ r. ⌜ r ≡ max x y ⌝ }
@@ -25,12 +25,6 @@ fn spare(cap: u32, back: u32, used: u32) -> u32
     cap + back - used
 }
 
-pub fn wide(x: u16) -> u32
-    ensures { λ r. ⌜ (r ≡ x) × (r < 65536) ⌝ }
-{
-    x as u32
-}
-
 // What the arc between a column of the weight and taxon i carries.
 fn arc(weight: u32, planes: &[u64; 72], i: usize) -> u32
     requires { ⌜ (weight < 65536) × (i < 64) × Tabled (now planes) ⌝ }
@@ -39,62 +33,60 @@ fn arc(weight: u32, planes: &[u64; 72], i: usize) -> u32
     weight * taxa::multiplicity(planes, i as u32)
 }
 
-// What a taxon finds at a column: the weight, what it can send, what it can turn back, and the column's room.
+// What a taxon finds at a column: the weight, what it can send, and what of that the column lets through whoever takes it: what the taxon can turn back, or
+// the column's room.
 pub struct Gate {
     pub weight: u32,
     pub sends: u32,
-    pub back: u32,
-    pub room: u32,
+    pub free: u32,
 }
 
 pub fn gate_at(
     weights: &[u16],
     planes: &[u64; 72],
     limits: &[u32; 256],
-    n: usize,
-    ws: &[i32],
     used: &[u32; 256],
     c: usize,
     i: usize,
+    flow: NetFlow,
 ) -> Gate
     requires { ⌜
         (c < 256)
         × (c < length (now weights))
         × (nth (now weights) c < 65536)
-        × Entry (now ws) n c i (network.arc (now weights) (now planes) c i)
+        × (flow .out ≤ network.arc (now weights) (now planes) c i)
+        × (flow .inn ≤ network.arc (now weights) (now planes) c i)
         × (nth (now used) c ≤ nth (now limits) c)
         × (i < 64)
         × Tabled (now planes) ⌝ }
     ensures { λ r. ⌜
-        IsGate (now (weights .entry)) (now (planes .entry)) (now (limits .entry)) (now (used .entry)) n (now (ws .entry)) c i
-        (r .weight) (r .sends) (r .back) (r .room) ⌝ }
+        IsGate (now (weights .entry)) (now (planes .entry)) (now (limits .entry)) (now (used .entry)) c i (flow .out) (flow .inn)
+        (r .weight) (r .sends) (r .free) ⌝ }
 {
-    let weight = wide(weights[c]);
-    let back = net::inn_in(ws, n, c, i);
+    let weight = net::wide(weights[c]);
     let most = arc(weight, planes, i);
-    let sends = spare(most, back, net::out_in(ws, n, c, i));
+    let sends = spare(most, flow.inn, flow.out);
     Gate {
         weight: weight,
         sends: sends,
-        back: back,
-        room: limits[c] - used[c],
+        free: greatest(flow.inn, limits[c] - used[c]),
     }
 }
 
 // What a hop to taxon j carries.
-pub fn carry_to(g: Gate, planes: &[u64; 72], ws: &[i32], n: usize, c: usize, j: usize) -> u32
-    requires { ⌜ (g .weight < 65536) × Entry (now ws) n c j (g .weight * multiplicityIn (now planes) j) × (j < 64) × Tabled (now planes) ⌝ }
+pub fn carry_to(g: Gate, planes: &[u64; 72], j: usize, flow: NetFlow) -> u32
+    requires { ⌜
+        (g .weight < 65536)
+        × (flow .out ≤ g .weight * multiplicityIn (now planes) j)
+        × (flow .inn ≤ g .weight * multiplicityIn (now planes) j)
+        × (j < 64)
+        × Tabled (now planes) ⌝ }
     ensures { λ r. ⌜
-        r ≡ min (min (g .sends) (g .weight * multiplicityIn (now (planes .entry)) j + outs (now (ws .entry)) n c j - inns (now (ws .entry)) n c j))
-        (max (max (g .back) (outs (now (ws .entry)) n c j)) (g .room)) ⌝ }
+        r ≡ min (min (g .sends) (g .weight * multiplicityIn (now (planes .entry)) j + flow .out - flow .inn)) (max (g .free) (flow .out)) ⌝ }
 {
-    let out = net::out_in(ws, n, c, j);
     let most = arc(g.weight, planes, j);
-    let takes = spare(most, out, net::inn_in(ws, n, c, j));
-    taxa::least(
-        taxa::least(g.sends, takes),
-        greatest(greatest(g.back, out), g.room),
-    )
+    let takes = spare(most, flow.out, flow.inn);
+    taxa::least(taxa::least(g.sends, takes), greatest(g.free, flow.out))
 }
 
 // Taxon j is offered a hop from i through c that carries k: it joins, unless that is nothing.
@@ -119,6 +111,7 @@ fn sender(
     planes: &[u64; 72],
     joined: &[u64; 256],
     limits: &[u32; 256],
+    offsets: &[u16; 257],
     n: usize,
     m: usize,
     ws: &[i32],
@@ -126,16 +119,18 @@ fn sender(
     c: usize,
     x: u64,
 ) -> usize
-    requires { ⌜ Ready (now weights) (now planes) (now joined) (now limits) n m (now ws) (now used) × (c < m) × (x ⊆ nth (now joined) c) ⌝ }
+    requires { ⌜ Ready (now weights) (now planes) (now joined) (now limits) (now offsets) n m (now ws) (now used) × (c < m) × (x ⊆ nth (now joined) c) ⌝ }
     ensures { λ r. ⌜ Leads (now (weights .entry)) (now (planes .entry)) (now (joined .entry)) (now (limits .entry)) n (now (ws .entry)) c x r ⌝ }
 {
+    let column = net::column_at(joined, offsets, c);
     let mut found: usize = 64;
     let mut left = x;
     while 0 < left {
         let i = taxa::lowest(left) as usize;
-        let g = gate_at(weights, planes, limits, n, ws, used, c, i);
+        let flow = net::flow(ws, column, i);
+        let g = gate_at(weights, planes, limits, used, c, i, flow);
         if 0 < g.sends {
-            if 0 < greatest(g.back, g.room) {
+            if 0 < g.free {
                 return i;
             }
             found = i;
@@ -151,6 +146,7 @@ fn through(
     planes: &[u64; 72],
     joined: &[u64; 256],
     limits: &[u32; 256],
+    offsets: &[u16; 257],
     n: usize,
     m: usize,
     ws: &[i32],
@@ -162,20 +158,35 @@ fn through(
     c: usize,
 ) -> u64
     requires { ⌜
-        Ready (now weights) (now planes) (now joined) (now limits) n m (now ws) (now used)
+        Ready (now weights) (now planes) (now joined) (now limits) (now offsets) n m (now ws) (now used)
         × Rooted (now weights) (now planes) (now joined) (now limits) n m (now ws) sources met (now tree)
         × (c < m)
         × (has (nth (now joined) c) i ≡ true)
         × (has met i ≡ true) ⌝ }
-    ensures { λ r. ⌜ Passed (now (weights .entry)) (now (planes .entry)) (now (joined .entry)) (now (limits .entry)) n m (now (ws .entry)) sources met r (now (tree .exit)) i c 0 ⌝ }
+    ensures { λ r. ⌜ Passed (now (weights .entry)) (now (planes .entry)) (now (joined .entry)) (now (limits .entry)) n m (now (ws .entry)) sources met r (now (tree .exit)) i c (turnOf (now (tree .entry)) i + 1) 0 ⌝ }
 {
-    let g = gate_at(weights, planes, limits, n, ws, used, c, i);
-    let stamp = taxa::size(met);
+    let column = net::column_at(joined, offsets, c);
+    let gate = gate_at(
+        weights,
+        planes,
+        limits,
+        used,
+        c,
+        i,
+        net::flow(ws, column, i),
+    );
+    // No hop carries more than the way to i.
+    let g = Gate {
+        weight: gate.weight,
+        sends: taxa::least(gate.sends, tree[4 * i + 3]),
+        free: gate.free,
+    };
+    let stamp = tree[4 * i + 2] + 1;
     let mut all = met;
     let mut left = taxa::difference(joined[c], met);
     while 0 < left {
         let j = taxa::lowest(left) as usize;
-        let k = taxa::least(carry_to(g, planes, ws, n, c, j), tree[4 * i + 3]);
+        let k = carry_to(g, planes, j, net::flow(ws, column, j));
         all = offer(tree, all, j, i, c, stamp, k);
         left = taxa::rest(left);
     }
@@ -188,6 +199,7 @@ fn pass(
     planes: &[u64; 72],
     joined: &[u64; 256],
     limits: &[u32; 256],
+    offsets: &[u16; 257],
     n: usize,
     m: usize,
     ws: &[i32],
@@ -198,7 +210,7 @@ fn pass(
     c: usize,
 ) -> u64
     requires { ⌜
-        Ready (now weights) (now planes) (now joined) (now limits) n m (now ws) (now used)
+        Ready (now weights) (now planes) (now joined) (now limits) (now offsets) n m (now ws) (now used)
         × Rooted (now weights) (now planes) (now joined) (now limits) n m (now ws) sources met (now tree)
         × (c < m) ⌝ }
     ensures { λ r. ⌜ Crossed (now (weights .entry)) (now (planes .entry)) (now (joined .entry)) (now (limits .entry)) n m (now (ws .entry)) sources met r (now (tree .exit)) c ⌝ }
@@ -207,7 +219,19 @@ fn pass(
         return met;
     }
     let here = taxa::common(joined[c], met);
-    let i = sender(weights, planes, joined, limits, n, m, ws, used, c, here);
+    let i = sender(
+        weights,
+        planes,
+        joined,
+        limits,
+        offsets,
+        n,
+        m,
+        ws,
+        used,
+        c,
+        here,
+    );
     if i == 64 {
         return met;
     }
@@ -216,6 +240,7 @@ fn pass(
         planes,
         joined,
         limits,
+        offsets,
         n,
         m,
         ws,
@@ -241,6 +266,7 @@ fn sweep(
     planes: &[u64; 72],
     joined: &[u64; 256],
     limits: &[u32; 256],
+    offsets: &[u16; 257],
     n: usize,
     m: usize,
     ws: &[i32],
@@ -252,7 +278,7 @@ fn sweep(
     first: usize,
 ) -> u64
     requires { ⌜
-        Ready (now weights) (now planes) (now joined) (now limits) n m (now ws) (now used)
+        Ready (now weights) (now planes) (now joined) (now limits) (now offsets) n m (now ws) (now used)
         × Rooted (now weights) (now planes) (now joined) (now limits) n m (now ws) sources met (now tree) ⌝ }
     ensures { λ r. ⌜ Swept (now (weights .entry)) (now (planes .entry)) (now (joined .entry)) (now (limits .entry)) n m (now (ws .entry)) sources met r (now (tree .exit)) goal first ⌝ }
 {
@@ -266,6 +292,7 @@ fn sweep(
             planes,
             joined,
             limits,
+            offsets,
             n,
             m,
             ws,
@@ -300,6 +327,7 @@ pub fn reach(
     planes: &[u64; 72],
     joined: &[u64; 256],
     limits: &[u32; 256],
+    offsets: &[u16; 257],
     n: usize,
     m: usize,
     ws: &[i32],
@@ -309,7 +337,7 @@ pub fn reach(
     goal: u64,
     first: usize,
 ) -> u64
-    requires { ⌜ Ready (now weights) (now planes) (now joined) (now limits) n m (now ws) (now used) × (length (now tree) ≡ 256) × (sources < 2 ^ n) ⌝ }
+    requires { ⌜ Ready (now weights) (now planes) (now joined) (now limits) (now offsets) n m (now ws) (now used) × (length (now tree) ≡ 256) × (sources < 2 ^ n) ⌝ }
     ensures { λ r. ⌜
         Found (now (weights .entry)) (now (planes .entry)) (now (joined .entry)) (now (limits .entry)) n m (now (ws .entry)) sources r (now (tree .exit)) goal
         × (length (now (tree .exit)) ≡ 256) ⌝ }
@@ -322,6 +350,7 @@ pub fn reach(
         planes,
         joined,
         limits,
+        offsets,
         n,
         m,
         ws,
@@ -339,6 +368,7 @@ pub fn reach(
             planes,
             joined,
             limits,
+            offsets,
             n,
             m,
             ws,

@@ -1,8 +1,8 @@
 -- The operation "split": the rows of its table, what the search is given and finds, and what is left of the workspace.
-use mathlib.Core.Path.{_≡_, refl, sym, ap, ap₂, _∙_}
+use mathlib.Core.Path.{_≡_, refl, sym, ap, _∙_}
 use mathlib.Core.Bool.{Bool, true, false, _||_}
 use mathlib.Core.List.{List}
-use Prim.Native.Nat.{ℕ, _*_, _^_, _≤_, _<_}
+use Prim.Native.Nat.{ℕ, _^_, _≤_, _<_}
 use native.Mathlib.Omega.{arith}
 use lib.Dec.{ltb}
 use lib.IntN.{ℤ}
@@ -18,15 +18,18 @@ use Rattle.matrix.specs.declared.Checked.{Checked}
 use Rattle.matrix.specs.declared.Checked.the-variants as checks
 use Rattle.matrix.specs.Check.{checked}
 use Rattle.method.specs.Split.{Column, side, splitCost, parted}
-use Rattle.method.specs.Tree.{column}
+use Rattle.method.specs.Flow.{arcCount}
+use Rattle.method.specs.Tree.{column, oneEntries}
+use Rattle.method.proofs.Arcs.{arcs-ones}
 use Rattle.search.specs.Search.{Given}
 use Rattle.search.specs.Workspace.{cleared}
+use Rattle.search.proofs.Workspace.{clear-less, cleared-clear}
 use Rattle.split.specs.declared.Divided.{Divided as Answer}
 use Rattle.split.specs.declared.Divided.the-variants.{Taken, Refused}
 use Rattle.split.specs.Columns.{Parallel, matrixIn}
 use Rattle.split.specs.Groups.{IsSplit}
 use Rattle.split.specs.Operation.{Splittable, splitOf, noGroup, answered, divided, workspaceAfter, returned, splitNumbers}
-use Rattle.split.proofs.Soundness.{taken-count, taken-known, few-taxa, few-columns}
+use Rattle.split.proofs.Soundness.{taken-count, few-taxa, few-columns}
 
 -- ---- the rows of the table
 
@@ -48,13 +51,13 @@ module _ (n m : ℕ) (file : List ℕ) (S room : ℕ) where
   a-group : 2 ≤ count 64 S → within S (all n) ≡ true → noGroup n S ≡ false
   a-group two known = rw (le-ltb (count 64 S) 2 two, known)
 
-  pub no-room : 2 ≤ count 64 S → within S (all n) ≡ true → room < n * m → Refused (refused 9 0) ≡ answered (checks.Taken n m) file S room
+  pub no-room : 2 ≤ count 64 S → within S (all n) ≡ true → room < oneEntries (matrixIn file) → Refused (refused 9 0) ≡ answered (checks.Taken n m) file S room
   unfolding answered
-  no-room two known l = rw (a-group two known, lt-ltb room (n * m) l)
+  no-room two known l = rw (a-group two known, lt-ltb room (oneEntries (matrixIn file)) l)
 
   pub all-tested : Splittable file S n m room → splitOf (matrixIn file) S ≡ answered (checks.Taken n m) file S room
   unfolding answered
-  all-tested s = rw (a-group (s .two) (within-⊆ S (all n) .1 (s .known)), le-ltb room (n * m) (s .long))
+  all-tested s = rw (a-group (s .two) (within-⊆ S (all n) .1 (s .known)), le-ltb room (oneEntries (matrixIn file)) (s .long))
 
 -- ---- what the search is given, and what it finds
 
@@ -91,12 +94,21 @@ module _ {file : List ℕ} {S n m room : ℕ} (f : File file) (s : Splittable fi
   unfolding splitOf
   found d u e = (λ i. Taken (d .is-cost i) (d .is-side i) (d .is-parted i)) ∙ (λ i. taken-of (u i) (sym (taken-count f (s .taken)) i) (e i))
 
+  -- The search uses no more numbers than there are 1s.
+  pub arcs-fit : {cols : ℕ → Column} {k : ℕ} → k ≡ oneEntries (matrixIn file) → cols ≡ column (matrixIn file .columns) → arcCount m cols S ≤ k
+  unfolding oneEntries
+  arcs-fit {cols} many e = rw (many, taken-count f (s .taken), ← e) (arcs-ones m cols S)
+
 -- ---- what is left of the workspace
 
-pub cleared-after : {file : List ℕ} {n m : ℕ} → File file → checks.Taken n m ≡ checked file → (S : ℕ) (ws : List ℤ) {r : Answer} → r ≡ splitOf (matrixIn file) S
-    → cleared (n * m) ws ≡ workspaceAfter file r ws
+-- Of numbers that were cleared, fewer are cleared again.
+pub still-cleared : {j k : ℕ} (ws : List ℤ) {ws′ ws″ : List ℤ} → j ≤ k → k ≤ length ws → ws′ ≡ cleared k ws → ws″ ≡ cleared j ws′ → ws″ ≡ cleared k ws
+still-cleared {j} {k} ws l long first e = e ∙ ap (cleared j) first ∙ clear-less l (cleared-clear k ws long) .is
+
+pub cleared-after : (file : List ℕ) (S : ℕ) (ws : List ℤ) {k : ℕ} {r : Answer} → k ≡ oneEntries (matrixIn file) → r ≡ splitOf (matrixIn file) S
+    → cleared k ws ≡ workspaceAfter file r ws
 unfolding workspaceAfter splitOf
-cleared-after f taken S ws e = rw e (ap₂ (λ (n m : ℕ). cleared (n * m) ws) (sym (taken-known f taken)) (sym (taken-count f taken)))
+cleared-after file S ws many e = rw e (ap (λ (k : ℕ). cleared k ws) many)
 
 pub left-alone : (file : List ℕ) (why : Refusal) (ws : List ℤ) → ws ≡ workspaceAfter file (Refused why) ws
 unfolding workspaceAfter

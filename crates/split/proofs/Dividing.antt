@@ -1,5 +1,5 @@
 -- What the search finds with n taxa is the method's split with sets of 64 (`found-split`); with its flips and its parts it is what a group hands on
--- (`handed-on`).
+-- (`handed-on`). And what is left of the workspace (`used-cleared`).
 use mathlib.Core.Path.{_≡_, sym, ap, ap₂, _∙_, subst}
 use mathlib.Core.List.{List, _++_}
 use Prim.Native.Nat.{ℕ, _^_, _<_}
@@ -12,6 +12,8 @@ use Rattle.method.specs.Split.{Column, side, parted, divisionCost, flipped, par
 use Rattle.method.proofs.Listing.{side-rule}
 use Rattle.method.proofs.Width.{cost-width, side-width, parted-width}
 use Rattle.search.specs.Search.{colsOf, Given, DividedByFlow}
+use Rattle.search.specs.Workspace.{cleared, Kept}
+use Rattle.search.proofs.Workspace.{cleared-again}
 use Rattle.split.specs.Columns.{Parallel}
 use Rattle.split.specs.Parts.{Listed}
 use Rattle.split.specs.Groups.{IsSplit, HandsOn}
@@ -35,6 +37,10 @@ module _ {ws P os zs : List ℕ} {S n m : ℕ} (g : Given ws P os zs S n m) wher
 
 pub t-small : {μ : ℕ → ℕ} {m : ℕ} {cols : ℕ → Column} {S cost A t : ℕ} → IsSplit μ m cols S cost A t → t < 2 ^ 32
 t-small {μ} {m} {cols} {S} s = omega (arith, s .is-parted, low-bound 64 (S ∖ side 64 μ m cols S))
+
+-- The numbers that the search changed are cleared, as many as it says.
+pub used-cleared : {arcs k : ℕ} {ws ws′ ws″ : List ℤ} → arcs ≡ k → Kept k ws ws′ → ws″ ≡ cleared arcs ws′ → ws″ ≡ cleared k ws
+used-cleared {ws′ = ws′} many kept e = e ∙ ap (λ (j : ℕ). cleared j ws′) many ∙ cleared-again kept
 
 module _ {ws P os zs os′ zs′ : List ℕ} {S cost A t : ℕ} (pos : Positive (multiplicityIn P)) (s : IsSplit (multiplicityIn P) (length ws) (colsOf ws os zs) S cost A t) where
   pub handed-on : {list list′ : List ℕ} {number : ℕ} → colsOf ws os′ zs′ ≡ flipped 64 (multiplicityIn P) (length ws) (colsOf ws os zs) S A → Parallel ws os′ zs′ → Listed os′ zs′ S list list′ number

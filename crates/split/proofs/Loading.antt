@@ -1,9 +1,12 @@
--- The columns of a file that is taken, as the method has them (`file-column`), and that a loop over them loads them (`all-loaded`).
+-- The columns of a file that is taken, as the method has them (`file-column`), and that a loop over them counts their 1s (`ones-next`) or loads them
+-- (`all-loaded`).
 use mathlib.Core.Path.{_≡_, sym, ap, _∙_, fun-ext}
 use mathlib.Core.List.{List}
 use Prim.Native.Nat.{ℕ, _+_, _≤_, _<_}
 use native.Mathlib.Omega.{arith}
 use lib.ListN.{length, getD, set, length-map, List·getD-map, List·getD-eq-default}
+use Rattle.taxa.specs.Sets.{count, sizes}
+use Rattle.taxa.proofs.Ranks.{sizes-next}
 use Rattle.matrix.specs.declared.Column as matrix
 use Rattle.matrix.specs.Matrix.{columnIn, matrixOf}
 use Rattle.matrix.proofs.Taken.{column-of}
@@ -33,6 +36,13 @@ module _ (file : List ℕ) where
   pub no-column : {c : ℕ} → columnCount ≤ c → fileColumns c ≡ columnOf blank
   unfolding column
   no-column {c} b = List·getD-eq-default (matrixIn file .columns) (columnOf blank) b
+
+  -- Their 1-sets.
+  abbrev pub fileOnes : ℕ → ℕ
+  fileOnes c = fileColumns c .ones
+
+  pub ones-next : {c : ℕ} {r : matrix.Column} → c < columnCount → r ≡ columnIn file c → sizes (c + 1) fileOnes ≡ sizes c fileOnes + count 64 (r .ones)
+  ones-next {c} b is = sizes-next fileOnes c ∙ ap (λ (d : Column). sizes c fileOnes + count 64 (d .ones)) (file-column b ∙ ap columnOf (sym is))
 
   -- Three lists that are filled to the end with what the file's columns say.
   pub record Loading (ws₀ os₀ zs₀ ws os zs : List ℕ) (c : ℕ) : Type 0 where

@@ -2,7 +2,6 @@
 use mathlib.Core.Path.{_≡_, sym, subst, _∙_}
 use mathlib.Core.List.{List}
 use Prim.Native.Nat.{ℕ, _+_, _*_, _≤_, _<_}
-use native.Mathlib.Nat.{mul-le-mul}
 use native.Mathlib.Omega.{arith}
 use lib.ListN.{length, length-map}
 use Rattle.taxa.specs.Sets.{Positive, multiplicity, multiplicityIn}
@@ -30,9 +29,6 @@ module _ {file : List ℕ} (f : File file) {n m : ℕ} (taken : Taken n m ≡ ch
 
   pub few-columns : m ≤ 256
   few-columns = omega (arith, taken-legal f taken .columns-fit, taken-columns f taken)
-
-  pub few-pairs : n * m ≤ 16384
-  few-pairs = omega (arith, mul-le-mul few-taxa few-columns)
 
   -- Lists of m places take the file's columns.
   pub can-load : {k : ℕ} → k ≡ m → (k ≡ length (matrixIn file .columns)) × (columnsAt file + 22 * k ≤ length file)

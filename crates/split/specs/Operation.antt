@@ -2,7 +2,7 @@
 use mathlib.Core.Path.{_≡_}
 use mathlib.Core.Bool.{Bool, _||_, not, cond}
 use mathlib.Core.List.{List}
-use Prim.Native.Nat.{ℕ, _*_, _≤_}
+use Prim.Native.Nat.{ℕ, _≤_}
 use lib.Dec.{ltb}
 use lib.IntN.{ℤ}
 use lib.ListN.{length}
@@ -12,7 +12,7 @@ use Rattle.matrix.specs.declared.Checked.{Checked}
 use Rattle.matrix.specs.declared.Checked.the-variants as checks
 use Rattle.matrix.specs.Check.{checked}
 use Rattle.method.specs.Split.{side, splitCost, parted}
-use Rattle.method.specs.Tree.{Matrix, column}
+use Rattle.method.specs.Tree.{Matrix, column, oneEntries}
 use Rattle.search.specs.Workspace.{cleared}
 use Rattle.split.specs.declared.Divided.{Divided}
 use Rattle.split.specs.declared.Divided.the-variants.{Taken, Refused}
@@ -30,22 +30,24 @@ splitOf M S =
 abbrev pub noGroup : ℕ → ℕ → Bool
 noGroup n S = ltb (count 64 S) 2 || not (within S (all n))
 
--- "The file's refusals come first, then 11, 9", the last two at 0; `room` is the workspace's length.
+-- "The file's refusals come first, then 11, 9", the last two at 0; `room` is the workspace's length: "9 now means shorter than the count of 1-entries, in
+-- its old place" (document 02, C-13), and that is of the whole matrix as read.
 unfoldable pub answered : Checked → List ℕ → ℕ → ℕ → Divided
 answered (checks.Refused why) file S room = Refused why
 answered (checks.Taken n m) file S room =
     cond (noGroup n S) (Refused (refused 11 0))
-    (cond (ltb room (n * m)) (Refused (refused 9 0))
+    (cond (ltb room (oneEntries (matrixIn file))) (Refused (refused 9 0))
     (splitOf (matrixIn file) S))
 
 -- What the split of a file answers.
 unfoldable pub divided : List ℕ → ℕ → ℕ → Divided
 divided file S room = answered (checked file) file S room
 
--- "A refusal [..] changes no lent memory." "After build or split the first n x m workspace numbers are 0, the rest untouched."
+-- "A refusal [..] changes no lent memory." After success there are zeros to the count of 1-entries, and "every workspace number past that count is proved
+-- unchanged" (document 02, C-13).
 unfoldable pub workspaceAfter : List ℕ → Divided → List ℤ → List ℤ
 workspaceAfter file (Refused why) ws = ws
-workspaceAfter file (Taken cost A t) ws = let M = matrixIn file in cleared (M .taxa * length (M .columns)) ws
+workspaceAfter file (Taken cost A t) ws = cleared (oneEntries (matrixIn file)) ws
 
 -- Document 01's numbers for each case: "a refusal returns its number and place, 0 for every other number"; "success returns 0, place 0 and, for
 -- [..] split, cost, A and t".
@@ -76,4 +78,4 @@ pub record Splittable (file : List ℕ) (S n m room : ℕ) : Type 0 where
   pub taken : checks.Taken n m ≡ checked file
   pub two : 2 ≤ count 64 S
   pub known : S ⊆ all n
-  pub long : n * m ≤ room
+  pub long : oneEntries (matrixIn file) ≤ room

@@ -6,7 +6,7 @@ ghost use lib.ListN.{length};
 ghost use Rattle.taxa.specs.Sets.{_∩_, mass, multiplicityIn};
 ghost use Rattle.matrix.specs.Matrix.{columnsAt};
 ghost use Rattle.method.specs.Split as method;
-ghost use Rattle.method.specs.Tree.{column};
+ghost use Rattle.method.specs.Tree.{column, oneEntries};
 ghost use Rattle.search.specs.Search.{colsOf};
 ghost use Rattle.split.specs.Columns.{columnOf, Parallel, matrixIn};
 
@@ -27,6 +27,21 @@ pub fn load(file: &[u8], weights: &mut [u16], ones: &mut [u64], zeros: &mut [u64
         ones[c] = it.ones;
         zeros[c] = it.zeros;
     }
+}
+
+// How many 1-entries the m columns of a file that the check takes have.
+pub fn one_entries(file: &[u8], m: usize) -> usize
+    requires { ⌜
+        (m ≡ length (matrixIn (now file) .columns))
+        × (columnsAt (now file) + 22 * m ≤ length (now file))
+        × (m ≤ 256) ⌝ }
+    ensures { λ r. ⌜ r ≡ oneEntries (matrixIn (now (file .entry))) ⌝ }
+{
+    let mut count: usize = 0;
+    for c in 0..m {
+        count = count + taxa::size(matrix::column_in(file, c).ones) as usize;
+    }
+    count
 }
 
 // A column with its 0s in a set raised to 1.

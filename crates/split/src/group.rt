@@ -3,9 +3,10 @@ use crate::columns;
 use crate::parts;
 use search::Split;
 ghost use mathlib.Core.Path.{_≡_};
-ghost use Prim.Native.Nat.{_*_, _≤_};
+ghost use Prim.Native.Nat.{_≤_};
 ghost use lib.ListN.{length};
 ghost use Rattle.taxa.specs.Sets.{multiplicityIn, count};
+ghost use Rattle.method.specs.Flow.{arcCount};
 ghost use Rattle.search.specs.Search.{colsOf, Given};
 ghost use Rattle.search.specs.Network.{Lent};
 ghost use Rattle.search.specs.Workspace.{cleared};
@@ -24,17 +25,18 @@ pub fn divide(
     workspace: &mut [i32],
     joined: &mut [u64; 256],
     limits: &mut [u32; 256],
+    offsets: &mut [u16; 257],
     used: &mut [u32; 256],
     tree: &mut [u32; 256],
 ) -> Split
     requires { ⌜
         Given (now weights) (now planes) (now ones) (now zeros) group n m
-        × (n * m ≤ length (now workspace))
-        × Lent (now joined) (now limits) (now used) (now tree) ⌝ }
+        × (arcCount m (colsOf (now weights) (now ones) (now zeros)) group ≤ length (now workspace))
+        × Lent (now joined) (now limits) (now offsets) (now used) (now tree) ⌝ }
     ensures { λ r. ⌜
         IsSplit (multiplicityIn (now (planes .entry))) m (colsOf (now (weights .entry)) (now (ones .entry)) (now (zeros .entry))) group (r .cost) (r .side) (r .other)
-        × (now (workspace .exit) ≡ cleared (n * m) (now (workspace .entry)))
-        × Lent (now (joined .exit)) (now (limits .exit)) (now (used .exit)) (now (tree .exit)) ⌝ }
+        × (now (workspace .exit) ≡ cleared (arcCount m (colsOf (now (weights .entry)) (now (ones .entry)) (now (zeros .entry))) group) (now (workspace .entry)))
+        × Lent (now (joined .exit)) (now (limits .exit)) (now (offsets .exit)) (now (used .exit)) (now (tree .exit)) ⌝ }
 {
     let found = search::divide(
         weights,
@@ -47,10 +49,11 @@ pub fn divide(
         workspace,
         joined,
         limits,
+        offsets,
         used,
         tree,
     );
-    search::net::clear(workspace, n * m);
+    search::net::clear(workspace, found.arcs);
     found
 }
 
@@ -72,20 +75,21 @@ pub fn split_group(
     list: &mut [u64],
     joined: &mut [u64; 256],
     limits: &mut [u32; 256],
+    offsets: &mut [u16; 257],
     used: &mut [u32; 256],
     tree: &mut [u32; 256],
 ) -> Handed
     requires { ⌜
         Given (now weights) (now planes) (now ones) (now zeros) group n (length (now weights))
         × Parallel (now weights) (now ones) (now zeros)
-        × (n * length (now weights) ≤ length (now workspace))
+        × (arcCount (length (now weights)) (colsOf (now weights) (now ones) (now zeros)) group ≤ length (now workspace))
         × (count 64 group ≤ length (now list))
-        × Lent (now joined) (now limits) (now used) (now tree) ⌝ }
+        × Lent (now joined) (now limits) (now offsets) (now used) (now tree) ⌝ }
     ensures { λ r. ⌜
         HandsOn (now (weights .entry)) (now (planes .entry)) (now (ones .entry)) (now (zeros .entry)) (now (ones .exit)) (now (zeros .exit)) group
         (now (list .entry)) (now (list .exit)) (r .cost) (r .number)
-        × (now (workspace .exit) ≡ cleared (n * length (now (weights .entry))) (now (workspace .entry)))
-        × Lent (now (joined .exit)) (now (limits .exit)) (now (used .exit)) (now (tree .exit)) ⌝ }
+        × (now (workspace .exit) ≡ cleared (arcCount (length (now (weights .entry))) (colsOf (now (weights .entry)) (now (ones .entry)) (now (zeros .entry))) group) (now (workspace .entry)))
+        × Lent (now (joined .exit)) (now (limits .exit)) (now (offsets .exit)) (now (used .exit)) (now (tree .exit)) ⌝ }
 {
     let found = divide(
         weights,
@@ -98,6 +102,7 @@ pub fn split_group(
         workspace,
         joined,
         limits,
+        offsets,
         used,
         tree,
     );

@@ -8,10 +8,10 @@ mod parts;
 use matrix::Checked;
 use record::Refusal;
 ghost use mathlib.Core.Path.{_≡_};
-ghost use Prim.Native.Nat.{_*_};
 ghost use lib.ListN.{length};
 ghost use Rattle.matrix.specs.Check.{checked};
 ghost use Rattle.matrix.specs.declared.Checked.the-variants as checks;
+ghost use Rattle.method.specs.Tree.{oneEntries};
 ghost use Rattle.search.specs.Workspace.{cleared};
 ghost use Rattle.split.specs.Columns.{Parallel, matrixIn};
 ghost use Rattle.split.specs.Operation.{Splittable, splitOf, answered, workspaceAfter, Splits};
@@ -22,7 +22,8 @@ pub enum Divided {
     Refused(Refusal),
 }
 
-// The split of a group that nothing refuses; the three slices are room for the file's columns.
+// The split of a group that nothing refuses; the three slices are room for the file's columns. The numbers that document 02's C-13 lends are cleared first,
+// and the search of the group uses no others.
 fn split_loaded(
     file: &[u8],
     weights: &mut [u16],
@@ -31,18 +32,22 @@ fn split_loaded(
     group: u64,
     n: usize,
     m: usize,
+    needed: usize,
     workspace: &mut [i32],
 ) -> Divided
     requires { ⌜
         Splittable (now file) group n m (length (now workspace))
         × Parallel (now weights) (now ones) (now zeros)
-        × (length (now weights) ≡ m) ⌝ }
-    ensures { λ r. ⌜ (r ≡ splitOf (matrixIn (now (file .entry))) group) × (now (workspace .exit) ≡ cleared (n * m) (now (workspace .entry))) ⌝ }
+        × (length (now weights) ≡ m)
+        × (needed ≡ oneEntries (matrixIn (now file))) ⌝ }
+    ensures { λ r. ⌜ (r ≡ splitOf (matrixIn (now (file .entry))) group) × (now (workspace .exit) ≡ cleared needed (now (workspace .entry))) ⌝ }
 {
     columns::load(file, weights, ones, zeros);
     let planes = matrix::planes_in(file);
+    search::net::clear(workspace, needed);
     let mut joined = [0u64; 256];
     let mut limits = [0u32; 256];
+    let mut offsets = [0u16; 257];
     let mut used = [0u32; 256];
     let mut tree = [0u32; 256];
     let found = group::divide(
@@ -56,6 +61,7 @@ fn split_loaded(
         workspace,
         &mut joined,
         &mut limits,
+        &mut offsets,
         &mut used,
         &mut tree,
     );
@@ -81,7 +87,8 @@ fn split_matrix(file: &[u8], group: u64, n: usize, m: usize, workspace: &mut [i3
             place: 0,
         });
     }
-    if workspace.len() < n * m {
+    let needed = columns::one_entries(file, m);
+    if workspace.len() < needed {
         return Divided::Refused(Refusal {
             number: 9,
             place: 0,
@@ -98,6 +105,7 @@ fn split_matrix(file: &[u8], group: u64, n: usize, m: usize, workspace: &mut [i3
         group,
         n,
         m,
+        needed,
         workspace,
     )
 }

@@ -3,11 +3,11 @@
 -- the operation's table.
 use mathlib.Core.Path.{_≡_, refl, sym, ap, _∙_, subst}
 use mathlib.Core.List.{List, _++_}
-use Prim.Native.Nat.{ℕ, zero, suc, _+_, _*_, _≤_, _<_}
+use Prim.Native.Nat.{ℕ, zero, suc, _≤_, _<_}
 use native.Mathlib.Omega.{arith}
-use lib.IntN.{ℤ, pos}
-use lib.ListN.{length, take, drop, replicate, length-replicate, length-append, length-drop}
-use lib.Seq.{take-at, drop-at, getD-take}
+use lib.IntN.{ℤ}
+use lib.ListN.{length, take, drop, length-append, length-drop}
+use lib.Seq.{take-at, getD-take}
 use borrow.Author.Tests.{lt-ltb, le-ltb}
 use Rattle.taxa.specs.Sets.{Positive, multiplicity, multiplicityIn, Tabled, all}
 use Rattle.taxa.proofs.Members.{all-<, all-fits}
@@ -24,23 +24,21 @@ use Rattle.answer.specs.Tests.{judge}
 use Rattle.answer.specs.Writing.{writeTests, writing}
 use Rattle.answer.proofs.Meaning.{lawful-passes}
 use Rattle.method.specs.Split.{Column}
-use Rattle.method.specs.Tree.{Matrix, Sound, column, build, ordered, flipList, answer}
+use Rattle.method.specs.Tree.{Matrix, Sound, column, oneEntries, build, ordered, flipList, answer}
+use Rattle.method.proofs.Arcs.{arcs-ones}
 use Rattle.method.proofs.Order.{build-length}
 use Rattle.method.proofs.Promises as promises
 use Rattle.search.specs.Workspace.{cleared}
 use Rattle.search.specs.Search.{colsOf}
+use Rattle.search.proofs.Workspace.{clear-less, cleared-clear}
 use Rattle.split.specs.Columns.{Parallel, matrixIn}
 use Rattle.split.proofs.Soundness.{taken-count, taken-known, few-taxa, few-columns, can-load, taken-sound}
 use Rattle.tree.specs.declared.Built.{Built}
 use Rattle.tree.specs.declared.Built.the-variants.{Refused}
 use Rattle.tree.specs.Lists.{firstGroups, Room, unweighed}
-use Rattle.tree.specs.Grow.{entriesFor, LentLists, Ready, Grown, walkFrom, Walked, Answers}
+use Rattle.tree.specs.Grow.{entriesFor, LentLists, arcsIn, Ready, Grown, walkFrom, Walked, Answers}
 use Rattle.tree.specs.Build.{contentWith, contentFor, roomFor, takenOf, Buildable, answered, built, outputAfter, workspaceAfter, returned, buildNumbers}
 use Rattle.tree.proofs.Rules.{answer-lawful, answer-fits, flips-few}
-
--- A workspace that is cleared stays so.
-pub cleared-twice : (k : ℕ) (ws : List ℤ) → cleared k (cleared k ws) ≡ cleared k ws
-cleared-twice k ws = ap (_++_ (replicate k (pos 0))) (drop-at (replicate k (pos 0)) (drop k ws) k (length-replicate k (pos 0)))
 
 -- The flip list asks for no weight, and for no column past the last.
 same-flips : (m : ℕ) (old new new′ : ℕ → Column) → ((c : ℕ) → c < m → (new c .ones ≡ new′ c .ones) × (new c .zeros ≡ new′ c .zeros)) → flipList m old new ≡ flipList m old new′
@@ -72,18 +70,24 @@ module _ {file : List ℕ} {n m space room : ℕ} (f : File file) (b : Buildable
 
   -- ---- the walk from all taxa
 
-  grow-ready : {ws P os zs : List ℕ} {clear : List ℤ} (before : List ℤ) → Parallel ws os zs → multiplicityIn P ≡ file-multiplicities → Tabled P → length ws ≡ m → clear ≡ cleared (n * m) before → length clear ≡ space
-      → Ready ws P os zs (all n) n clear
-  grow-ready before p u t e c l =
+  -- The network of all taxa has no more arcs than the file has 1s.
+  few-arcs : (ws os zs : List ℕ) → length ws ≡ m → colsOf ws os zs ≡ file-columns → arcsIn ws os zs (all n) ≤ oneEntries M
+  unfolding oneEntries
+  few-arcs ws os zs e c = rw (e, c, taken-count f (b .taken)) (arcs-ones m file-columns (all n))
+
+  grow-ready : {ws P os zs : List ℕ} {needed : ℕ} {clear : List ℤ} (before : List ℤ) → Parallel ws os zs → colsOf ws os zs ≡ file-columns → multiplicityIn P ≡ file-multiplicities → Tabled P
+      → length ws ≡ m → needed ≡ oneEntries M → clear ≡ cleared needed before → length before ≡ space → Ready ws P os zs (all n) n clear
+  grow-ready {ws} {os = os} {zs} before p is u t e k c l =
       record {
-        parallel = p;
-        columns = omega (arith, few-columns f (b .taken));
-        positive = subst Positive (sym u) (ok .positive);
-        tabled = t;
-        taxa = few-taxa f (b .taken);
+        loaded = record {
+          parallel = p;
+          columns = omega (arith, few-columns f (b .taken));
+          positive = subst Positive (sym u) (ok .positive);
+          tabled = t;
+          taxa = few-taxa f (b .taken);
+        };
         group = all-< n;
-        places = rw e (omega (arith, b .places));
-        clear = rw (e, c) (cleared-twice (n * m) before);
+        clear = rw (c, k) (clear-less (few-arcs ws os zs e is) (cleared-clear (oneEntries M) before (omega (arith, b .places))));
       }
 
   few-groups : (μ : ℕ → ℕ) (cols : ℕ → Column) → length (build 64 μ m cols (all n) .groups) ≤ 63
@@ -115,8 +119,9 @@ module _ {file : List ℕ} {n m space room : ℕ} (f : File file) (b : Buildable
     pub lent-columns : colsOf ws os zs ≡ file-columns → colsOf lent (entriesFor lent (os ++ o)) (entriesFor lent (zs ++ z)) ≡ file-columns
     lent-columns e = rw (ones-are, zeros-are, lent-is) e
 
-    pub lent-ready : multiplicityIn P ≡ file-multiplicities → Tabled P → {clear : List ℤ} (before : List ℤ) → clear ≡ cleared (n * m) before → length clear ≡ space → Ready lent P (entriesFor lent (os ++ o)) (entriesFor lent (zs ++ z)) (all n) n clear
-    lent-ready u t before c l = rw (ones-are, zeros-are, lent-is) (grow-ready before p u t sized c l)
+    pub lent-ready : colsOf ws os zs ≡ file-columns → multiplicityIn P ≡ file-multiplicities → Tabled P → {needed : ℕ} {clear : List ℤ} (before : List ℤ)
+        → needed ≡ oneEntries M → clear ≡ cleared needed before → length before ≡ space → Ready lent P (entriesFor lent (os ++ o)) (entriesFor lent (zs ++ z)) (all n) n clear
+    lent-ready is u t before k c l = rw (ones-are, zeros-are, lent-is) (grow-ready before p is u t sized k c l)
 
     pub lent-room : {ts cs : List ℕ} → length ts ≡ 63 → length cs ≡ 63 → Room (length (walkFrom lent P (entriesFor lent (os ++ o)) (entriesFor lent (zs ++ z)) (all n) .groups)) ts cs
     lent-room t c = grow-room lent P _ _ lent-sized t c
@@ -178,11 +183,11 @@ pub some-taxa : {file : List ℕ} {n m : ℕ} → File file → checks.Taken n m
 some-taxa f taken = omega (arith, taken-sound f taken .some, taken-known f taken)
 
 module _ (file : List ℕ) (n m space room : ℕ) where
-  pub no-space : space < n * m → Refused (refused 9 0) ≡ answered (checks.Taken n m) file space room
+  pub no-space : space < oneEntries (matrixIn file) → Refused (refused 9 0) ≡ answered (checks.Taken n m) file space room
   unfolding answered
   no-space l = rw (lt-ltb _ _ l)
 
-  pub no-output : n * m ≤ space → room < roomFor n m → Refused (refused 10 0) ≡ answered (checks.Taken n m) file space room
+  pub no-output : oneEntries (matrixIn file) ≤ space → room < roomFor n m → Refused (refused 10 0) ≡ answered (checks.Taken n m) file space room
   unfolding answered
   no-output l k = rw (le-ltb _ _ l, lt-ltb _ _ k)
 
@@ -191,10 +196,10 @@ module _ (file : List ℕ) (n m space room : ℕ) where
   all-tested b = rw (le-ltb _ _ (b .places), le-ltb _ _ (b .fits))
 
   -- A build that nothing refuses.
-  pub taken-row : (out : List ℕ) (ws : List ℤ) {r : Built} {out′ : List ℕ} {ws′ : List ℤ} → File file → Buildable file n m space room → r ≡ takenOf file → out′ ≡ over (fileOf (contentFor (matrixIn file))) 0 out
-      → ws′ ≡ cleared (n * m) ws → (r ≡ answered (checks.Taken n m) file space room) × (out′ ≡ outputAfter file r out) × (ws′ ≡ workspaceAfter file r ws)
+  pub taken-row : (out : List ℕ) (ws : List ℤ) {r : Built} {out′ : List ℕ} {ws′ : List ℤ} → Buildable file n m space room → r ≡ takenOf file → out′ ≡ over (fileOf (contentFor (matrixIn file))) 0 out
+      → ws′ ≡ cleared (oneEntries (matrixIn file)) ws → (r ≡ answered (checks.Taken n m) file space room) × (out′ ≡ outputAfter file r out) × (ws′ ≡ workspaceAfter file r ws)
   unfolding outputAfter workspaceAfter
-  taken-row out ws f b is output clear = (is ∙ all-tested b, rw is output, rw (is, taken-count f (b .taken), taken-known f (b .taken)) clear)
+  taken-row out ws b is output clear = (is ∙ all-tested b, rw is output, rw is clear)
 
 -- A refusal changes no lent memory.
 pub output-left : (file : List ℕ) (why : Refusal) (out : List ℕ) → out ≡ outputAfter file (Refused why) out

@@ -11,10 +11,12 @@ use Rattle.taxa.specs.Sets.{multiplicityIn, count}
 use Rattle.taxa.proofs.Counts.{count-width}
 use Rattle.method.specs.Split.{Column, splitParts}
 use Rattle.method.specs.Tree.{Group, walked, build}
+use Rattle.method.proofs.Arcs.{turn-arcs}
 use Rattle.search.specs.Search.{Given, colsOf}
+use Rattle.search.proofs.Workspace.{clear-less}
 use Rattle.split.specs.Groups.{HandsOn}
 use Rattle.tree.specs.Lists.{Room}
-use Rattle.tree.specs.Grow.{Ready, Grown, AllSmall}
+use Rattle.tree.specs.Grow.{Ready, TurnsClear, Grown, AllSmall}
 use Rattle.tree.proofs.Walking.{whole-group, parts-small, ready-wide, node-length}
 
 module _ {ws P os zs : List ℕ} {S n : ℕ} {space : List ℤ} (r : Ready ws P os zs S n space) (two : 1 < count 64 S) where
@@ -22,20 +24,20 @@ module _ {ws P os zs : List ℕ} {S n : ℕ} {space : List ℤ} (r : Ready ws P 
   m = length ws
 
   two-n : 1 < count n S
-  two-n = omega (arith, count-width (r .taxa) (r .group))
+  two-n = omega (arith, count-width (r .loaded .taxa) (r .group))
 
   pub search-given : Given ws P os zs S n m
   search-given =
       record {
-        taxa = r .taxa;
-        columns = r .columns;
+        taxa = r .loaded .taxa;
+        columns = r .loaded .columns;
         weights = omega arith;
-        ones = omega (arith, r .parallel .ones);
-        zeros = omega (arith, r .parallel .zeros);
+        ones = omega (arith, r .loaded .parallel .ones);
+        zeros = omega (arith, r .loaded .parallel .zeros);
         group = r .group;
         two = two-n;
-        positive = r .positive;
-        tabled = r .tabled;
+        positive = r .loaded .positive;
+        tabled = r .loaded .tabled;
       }
 
 -- ---- what is handed on
@@ -56,7 +58,13 @@ module _ {ws P os zs os′ zs′ : List ℕ} {S n : ℕ} {space : List ℤ} {lis
   listed-fits e = omega (arith, ap length (h .parts) ∙ length-append (splitParts 64 μ (length ws) cols S) (drop k list), h .many, length-drop k list)
 
   pub parts-ready : (Ps : List ℕ) → Ps ≡ splitParts 64 μ (length ws) cols S → {room : ℕ} → 2 * count 64 S ≤ room + k → AllSmall Ps n (count 64 S) room
-  parts-ready Ps e {room} enough = rw e (parts-small μ (length ws) n cols S room (r .taxa) (r .group) two (omega (arith, h .many)))
+  parts-ready Ps e {room} enough = rw e (parts-small μ (length ws) n cols S room (r .loaded .taxa) (r .group) two (omega (arith, h .many)))
+
+  -- the group's numbers of the workspace are enough for each of them,
+  pub parts-clear : (Ps : List ℕ) → Ps ≡ splitParts 64 μ (length ws) cols S → {space′ : List ℤ} → space′ ≡ space → TurnsClear ws P os′ zs′ Ps space′
+  parts-clear Ps e same = rw (e, same) (record {
+    clear = λ mid Q t. clear-less (turn-arcs (length ws) (r .loaded .positive) (ready-wide r) (record { two = two; turn = rw (h .columns) at t })) (r .clear);
+  })
 
   -- there is room for them,
   pub parts-room : (at : ℕ) {next : ℕ} {walked-taxa paid walked′ paid′ : List ℕ} (Ps : List ℕ) → Ps ≡ splitParts 64 μ (length ws) cols S → next ≡ at + 1

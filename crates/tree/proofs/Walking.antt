@@ -1,6 +1,6 @@
 -- The walk over the parts of a group, as its loop meets it: what is left to walk, from the columns as they are now, comes to what all comes to
 -- (`Going`); and a group, from its split and the walk over its parts (`one-taxon`, `whole-group`).
-use mathlib.Core.Path.{_≡_, refl, sym, ap, _∙_, subst}
+use mathlib.Core.Path.{_≡_, refl, sym, ap, _∙_}
 use mathlib.Core.List.{List, [], _∷_, _++_, append-assoc, append-nil}
 use Prim.Native.Nat.{ℕ, _+_, _-_, _*_, _^_, _≤_, _<_}
 use native.Mathlib.Numerals.{add-one}
@@ -9,23 +9,27 @@ use lib.IntN.{ℤ}
 use lib.ListN.{length, getD, take, drop, length-append, length-drop, drop-of-length-le}
 use lib.Pow.{pow-mono}
 use lib.Seq.{drop-cons, getD-take, length-take-le}
-use Rattle.taxa.specs.Sets.{count}
+use Rattle.taxa.specs.Sets.{multiplicityIn, count}
 use Rattle.taxa.proofs.Members.{⊆-≤}
 use Rattle.method.specs.Split.{Column, splitCost, after, splitParts}
-use Rattle.method.specs.Tree.{Group, Walk, leaf, walked, node, build}
+use Rattle.method.specs.Tree.{Group, Walk, leaf, walked, node, build, now, later}
 use Rattle.method.proofs.Depth.{build-leaf, build-node}
 use Rattle.method.proofs.Order.{split-two, split-beside}
 use Rattle.method.proofs.Parts.{inside-R}
 use Rattle.method.proofs.Splits.{split-parts, part-in}
 use Rattle.search.specs.Search.{colsOf}
 use Rattle.split.specs.Columns.{Parallel}
-use Rattle.tree.specs.Grow.{Ready, Grown, AllSmall}
+use Rattle.tree.specs.Grow.{Loaded, Ready, TurnsClear, Grown, AllSmall}
 use Rattle.tree.proofs.Lists.{getD-in}
+
+-- The next set of a list, and those after it.
+drop-next : (Ps : List ℕ) (i : ℕ) → i < length Ps → drop i Ps ≡ getD Ps i 0 ∷ drop (i + 1) Ps
+drop-next Ps i l = drop-cons Ps i 0 l ∙ ap (λ (j : ℕ). getD Ps i 0 ∷ drop j Ps) (sym (add-one i))
 
 module _ (g : (ℕ → Column) → ℕ → Walk) (Ps : List ℕ) where
   -- One set walked, and those after it.
   walked-next : (cols : ℕ → Column) (i : ℕ) → i < length Ps → walked g cols (drop i Ps) ≡ walked g cols (getD Ps i 0 ∷ drop (i + 1) Ps)
-  walked-next cols i l = ap (walked g cols) (drop-cons Ps i 0 l ∙ ap (λ (j : ℕ). getD Ps i 0 ∷ drop j Ps) (sym (add-one i)))
+  walked-next cols i l = ap (walked g cols) (drop-next Ps i l)
 
   walked-end : (cols : ℕ → Column) (i : ℕ) → length Ps ≤ i → walked g cols (drop i Ps) ≡ leaf cols
   unfolding walked
@@ -113,15 +117,25 @@ still-listed k list old i e l = ap (λ (ps : List ℕ). getD ps i 0) (sym e) ∙
 pub rest-length : (k : ℕ) (list : List ℕ) → length (take (length list - k) (drop k list)) ≡ length list - k
 rest-length k list = length-take-le (length list - k) (drop k list) (omega (arith, length-drop k list))
 
--- What the walk asks of each part.
-pub ready-part : {ws P os zs os′ zs′ : List ℕ} {S Q n : ℕ} {space space′ : List ℤ} → Ready ws P os zs S n space → Parallel ws os′ zs′ → space′ ≡ space → Q < 2 ^ n
-    → Ready ws P os′ zs′ Q n space′
-ready-part {ws} {P} {os′ = os′} {zs′} {Q = Q} {n} r p e f =
-    subst (λ (l : List ℤ). Ready ws P os′ zs′ Q n l) (sym e)
-    (record { parallel = p; columns = r .columns; positive = r .positive; tabled = r .tabled; taxa = r .taxa; group = f; places = r .places; clear = r .clear })
+-- ---- what the walk asks of each part
+
+pub loaded-as : {ws P os zs os′ zs′ : List ℕ} {n : ℕ} → Loaded ws P os zs n → Parallel ws os′ zs′ → Loaded ws P os′ zs′ n
+loaded-as h p = record { parallel = p; columns = h .columns; positive = h .positive; tabled = h .tabled; taxa = h .taxa }
+
+module _ {ws P os zs : List ℕ} {space : List ℤ} (Ps : List ℕ) {i : ℕ} (l : i < length Ps) (h : TurnsClear ws P os zs (drop i Ps) space) where
+  turns : TurnsClear ws P os zs (getD Ps i 0 ∷ drop (i + 1) Ps) space
+  turns = rw (drop-next Ps i l) at h
+
+  -- The turn is the next part's,
+  pub part-ready : {os₀ zs₀ : List ℕ} {n : ℕ} {space′ : List ℤ} → Loaded ws P os₀ zs₀ n → Parallel ws os zs → getD Ps i 0 < 2 ^ n → space′ ≡ space → Ready ws P os zs (getD Ps i 0) n space′
+  part-ready r p f e = rw e (record { loaded = loaded-as r p; group = f; clear = turns .clear _ _ now })
+
+  -- and then that of those after it, with the columns that it left.
+  pub turns-on : {os′ zs′ : List ℕ} → colsOf ws os′ zs′ ≡ build 64 (multiplicityIn P) (length ws) (colsOf ws os zs) (getD Ps i 0) .columns → TurnsClear ws P os′ zs′ (drop (i + 1) Ps) space
+  turns-on e = record { clear = λ mid Q t. turns .clear mid Q (later (rw e at t)) }
 
 pub ready-wide : {ws P os zs : List ℕ} {S n : ℕ} {space : List ℤ} → Ready ws P os zs S n space → S < 2 ^ 64
-ready-wide r = omega (arith, r .group, pow-mono (r .taxa))
+ready-wide r = omega (arith, r .group, pow-mono (r .loaded .taxa))
 
 -- A group is one group more than those of its parts.
 pub node-length : (μ : ℕ → ℕ) (m : ℕ) (cols : ℕ → Column) {S : ℕ} → S < 2 ^ 64 → 1 < count 64 S

@@ -12,7 +12,7 @@ use Rattle.matrix.specs.declared.Checked.{Checked}
 use Rattle.matrix.specs.declared.Checked.the-variants as checks
 use Rattle.matrix.specs.Check.{checked}
 use Rattle.answer.specs.Content.{Content, fileOf, lengthOf}
-use Rattle.method.specs.Tree.{Group, Flips, Matrix, answer, total}
+use Rattle.method.specs.Tree.{Group, Flips, Matrix, oneEntries, answer, total}
 use Rattle.search.specs.Workspace.{cleared}
 use Rattle.split.specs.Columns.{matrixIn}
 use Rattle.tree.specs.declared.Built.{Built}
@@ -46,11 +46,12 @@ roomFor n m = 20 + 16 * (n - 1) + 22 * m
 abbrev pub takenOf : List ℕ → Built
 takenOf file = Taken (lengthOf (contentFor (matrixIn file))) (contentFor (matrixIn file) .total)
 
--- "The file's refusals come first, then [..] 9, 10", the last two at 0; `space` and `room` are the lengths of the workspace and of the output.
+-- "The file's refusals come first, then [..] 9, 10", the last two at 0; "9 now means shorter than the count of 1-entries" (document 02, C-13). `space` and
+-- `room` are the lengths of the workspace and of the output.
 unfoldable pub answered : Checked → List ℕ → ℕ → ℕ → Built
 answered (checks.Refused why) file space room = Refused why
 answered (checks.Taken n m) file space room =
-    cond (ltb space (n * m)) (Refused (refused 9 0))
+    cond (ltb space (oneEntries (matrixIn file))) (Refused (refused 9 0))
     (cond (ltb room (roomFor n m)) (Refused (refused 10 0))
     (takenOf file))
 
@@ -63,10 +64,10 @@ unfoldable pub outputAfter : List ℕ → Built → List ℕ → List ℕ
 outputAfter file (Refused why) out = out
 outputAfter file (Taken size sum) out = over (fileOf (contentFor (matrixIn file))) 0 out
 
--- "After build or split the first n x m workspace numbers are 0, the rest untouched."
+-- Document 02, C-13: one number for each 1 in the matrix; "every workspace number past that count is proved unchanged. After success that many are 0."
 unfoldable pub workspaceAfter : List ℕ → Built → List ℤ → List ℤ
 workspaceAfter file (Refused why) ws = ws
-workspaceAfter file (Taken size sum) ws = let M = matrixIn file in cleared (M .taxa * length (M .columns)) ws
+workspaceAfter file (Taken size sum) ws = cleared (oneEntries (matrixIn file)) ws
 
 -- Document 01's numbers for each case: "a refusal returns its number and place, 0 for every other number"; "success returns 0, place 0 and, for
 -- [..] build, length written and total".
@@ -95,5 +96,5 @@ pub record Builds (file : List ℕ) (ws : List ℤ) (out : List ℕ) (r : Built)
 -- What has been tested where nothing is refused.
 pub record Buildable (file : List ℕ) (n m space room : ℕ) : Type 0 where
   pub taken : checks.Taken n m ≡ checked file
-  pub places : n * m ≤ space
+  pub places : oneEntries (matrixIn file) ≤ space
   pub fits : roomFor n m ≤ room

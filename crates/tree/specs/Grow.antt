@@ -6,28 +6,41 @@ use lib.IntN.{ℤ}
 use lib.ListN.{length, getD, take}
 use Rattle.taxa.specs.Sets.{Positive, multiplicityIn, Tabled, count}
 use Rattle.matrix.specs.Matrix.{columnsAt}
-use Rattle.method.specs.Tree.{Group, Walk, build, walked, ordered, total}
+use Rattle.method.specs.Split.{Column}
+use Rattle.method.specs.Flow.{arcCount}
+use Rattle.method.specs.Tree.{Group, Walk, build, Turn, walked, ordered, total}
 use Rattle.answer.specs.declared.Written.{Written}
 use Rattle.answer.specs.declared.Written.the-variants as written
 use Rattle.answer.specs.Content.{Content, fileOf}
 use Rattle.answer.specs.Writing.{writing, put}
-use Rattle.search.specs.Workspace.{cleared}
+use Rattle.search.specs.Workspace.{Clear}
 use Rattle.search.specs.Search.{colsOf}
 use Rattle.split.specs.Columns.{Parallel, matrixIn}
 use Rattle.tree.specs.declared.Built.{Built}
 use Rattle.tree.specs.declared.Built.the-variants.{Taken, Refused}
 use Rattle.tree.specs.Lists.{firstGroups, Room}
 
--- At most 256 columns in three lists, multiplicities of which none is 0, with their table, a group of taxa below n, and a workspace whose first n x m numbers are 0.
-pub record Ready (ws P os zs : List ℕ) (S n : ℕ) (space : List ℤ) : Type 0 where
+-- At most 256 columns of at most 64 taxa in three lists, and multiplicities of which none is 0, with their table.
+pub record Loaded (ws P os zs : List ℕ) (n : ℕ) : Type 0 where
   pub parallel : Parallel ws os zs
   pub columns : length ws ≤ 256
   pub positive : Positive (multiplicityIn P)
   pub tabled : Tabled P
   pub taxa : n ≤ 64
+
+-- How many arcs the network of a group has.
+abbrev pub arcsIn : List ℕ → List ℕ → List ℕ → ℕ → ℕ
+arcsIn ws os zs S = arcCount (length ws) (colsOf ws os zs) S
+
+-- And a group of taxa below n, and a workspace whose first numbers, one for each of these arcs, are 0.
+pub record Ready (ws P os zs : List ℕ) (S n : ℕ) (space : List ℤ) : Type 0 where
+  pub loaded : Loaded ws P os zs n
   pub group : S < 2 ^ n
-  pub places : n * length ws ≤ length space
-  pub clear : cleared (n * length ws) space ≡ space
+  pub clear : Clear (arcsIn ws os zs S) space
+
+-- In a walk over sets that holds of the workspace at every turn, with the columns as they are then.
+pub record TurnsClear (ws P os zs Ps : List ℕ) (space : List ℤ) : Type 0 where
+  pub clear : (mid : ℕ → Column) (Q : ℕ) → Turn 64 (multiplicityIn P) (length ws) (colsOf ws os zs) Ps mid Q → Clear (arcCount (length ws) mid Q) space
 
 -- As many entries of a list as there are weights: those that stand for columns.
 abbrev pub entriesFor : List ℕ → List ℕ → List ℕ

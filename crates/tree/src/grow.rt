@@ -11,7 +11,7 @@ ghost use Rattle.search.specs.Workspace.{cleared};
 ghost use Rattle.split.specs.Columns.{Parallel};
 ghost use Rattle.split.specs.Groups.{HandsOn};
 ghost use Rattle.tree.specs.Lists.{firstGroups, Room};
-ghost use Rattle.tree.specs.Grow.{entriesFor, LentLists, Ready, Grown, AllSmall, walkFrom, walkOver};
+ghost use Rattle.tree.specs.Grow.{entriesFor, LentLists, Loaded, arcsIn, Ready, TurnsClear, Grown, AllSmall, walkFrom, walkOver};
 use super::order::put_group;
 use split::group::Handed;
 use split::group::split_group;
@@ -28,23 +28,26 @@ fn split_first(
     list: &mut [u64],
     joined: &mut [u64; 256],
     limits: &mut [u32; 256],
+    offsets: &mut [u16; 257],
     used: &mut [u32; 256],
     tree: &mut [u32; 256],
 ) -> Handed
     requires { ⌜
         Given (now weights) (now planes) (entriesFor (now weights) (now ones)) (entriesFor (now weights) (now zeros)) group n (length (now weights))
         × Parallel (now weights) (entriesFor (now weights) (now ones)) (entriesFor (now weights) (now zeros))
-        × (n * length (now weights) ≤ length (now ws))
+        × (arcsIn (now weights) (entriesFor (now weights) (now ones)) (entriesFor (now weights) (now zeros)) group ≤ length (now ws))
         × (count 64 group ≤ length (now list))
-        × Lent (now joined) (now limits) (now used) (now tree)
+        × Lent (now joined) (now limits) (now offsets) (now used) (now tree)
         × (length (now weights) ≤ length (now ones))
         × (length (now weights) ≤ length (now zeros)) ⌝ }
     ensures { λ r. ⌜
         HandsOn (now (weights .entry)) (now (planes .entry)) (entriesFor (now (weights .entry)) (now (ones .entry))) (entriesFor (now (weights .entry)) (now (zeros .entry)))
         (entriesFor (now (weights .entry)) (now (ones .exit))) (entriesFor (now (weights .entry)) (now (zeros .exit))) group
         (now (list .entry)) (now (list .exit)) (r .cost) (r .number)
-        × (now (ws .exit) ≡ cleared (n * length (now (weights .entry))) (now (ws .entry)))
-        × Lent (now (joined .exit)) (now (limits .exit)) (now (used .exit)) (now (tree .exit)) ⌝ }
+        × (now (ws .exit)
+        ≡ cleared (arcsIn (now (weights .entry)) (entriesFor (now (weights .entry)) (now (ones .entry))) (entriesFor (now (weights .entry)) (now (zeros .entry))) group)
+        (now (ws .entry)))
+        × Lent (now (joined .exit)) (now (limits .exit)) (now (offsets .exit)) (now (used .exit)) (now (tree .exit)) ⌝ }
 {
     let m = weights.len();
     split_group(
@@ -58,6 +61,7 @@ fn split_first(
         list,
         joined,
         limits,
+        offsets,
         used,
         tree,
     )
@@ -77,6 +81,7 @@ pub fn grow(
     paid: &mut [u32; 63],
     joined: &mut [u64; 256],
     limits: &mut [u32; 256],
+    offsets: &mut [u16; 257],
     used: &mut [u32; 256],
     tree: &mut [u32; 256],
     at: usize,
@@ -85,7 +90,7 @@ pub fn grow(
         Ready (now weights) (now planes) (entriesFor (now weights) (now ones)) (entriesFor (now weights) (now zeros)) group n (now ws)
         × (2 * count 64 group ≤ length (now list))
         × LentLists (now ones) (now zeros) (now walked) (now paid)
-        × Lent (now joined) (now limits) (now used) (now tree) ⌝ }
+        × Lent (now joined) (now limits) (now offsets) (now used) (now tree) ⌝ }
     requires { ⌜
         Room (at + length (walkFrom (now weights) (now planes) (entriesFor (now weights) (now ones)) (entriesFor (now weights) (now zeros)) group .groups))
         (now walked) (now paid) ⌝ }
@@ -95,7 +100,7 @@ pub fn grow(
         (walkFrom (now (weights .entry)) (now (planes .entry)) (entriesFor (now (weights .entry)) (now (ones .entry))) (entriesFor (now (weights .entry)) (now (zeros .entry))) group)
         (firstGroups (now (walked .entry)) (now (paid .entry)) at) (firstGroups (now (walked .exit)) (now (paid .exit)) r) at r
         × LentLists (now (ones .exit)) (now (zeros .exit)) (now (walked .exit)) (now (paid .exit))
-        × Lent (now (joined .exit)) (now (limits .exit)) (now (used .exit)) (now (tree .exit)) ⌝ }
+        × Lent (now (joined .exit)) (now (limits .exit)) (now (offsets .exit)) (now (used .exit)) (now (tree .exit)) ⌝ }
 {
     let size = taxa::size(group);
     if size < 2 {
@@ -112,6 +117,7 @@ pub fn grow(
         list,
         joined,
         limits,
+        offsets,
         used,
         tree,
     );
@@ -130,6 +136,7 @@ pub fn grow(
         paid,
         joined,
         limits,
+        offsets,
         used,
         tree,
         next,
@@ -151,6 +158,7 @@ fn walk(
     paid: &mut [u32; 63],
     joined: &mut [u64; 256],
     limits: &mut [u32; 256],
+    offsets: &mut [u16; 257],
     used: &mut [u32; 256],
     tree: &mut [u32; 256],
     at: usize,
@@ -160,8 +168,10 @@ fn walk(
         × (k ≤ length (now list))
         × (0 < bound)
         × LentLists (now ones) (now zeros) (now walked) (now paid)
-        × Lent (now joined) (now limits) (now used) (now tree) ⌝ }
-    requires { ⌜ Ready (now weights) (now planes) (entriesFor (now weights) (now ones)) (entriesFor (now weights) (now zeros)) 0 n (now ws) ⌝ }
+        × Lent (now joined) (now limits) (now offsets) (now used) (now tree) ⌝ }
+    requires { ⌜
+        Loaded (now weights) (now planes) (entriesFor (now weights) (now ones)) (entriesFor (now weights) (now zeros)) n
+        × TurnsClear (now weights) (now planes) (entriesFor (now weights) (now ones)) (entriesFor (now weights) (now zeros)) (take k (now list)) (now ws) ⌝ }
     requires { ⌜
         Room
         (at + length (walkOver (now weights) (now planes) (entriesFor (now weights) (now ones)) (entriesFor (now weights) (now zeros)) (take k (now list)) .groups))
@@ -173,7 +183,7 @@ fn walk(
         (take k (now (list .entry))))
         (firstGroups (now (walked .entry)) (now (paid .entry)) at) (firstGroups (now (walked .exit)) (now (paid .exit)) r) at r
         × LentLists (now (ones .exit)) (now (zeros .exit)) (now (walked .exit)) (now (paid .exit))
-        × Lent (now (joined .exit)) (now (limits .exit)) (now (used .exit)) (now (tree .exit)) ⌝ }
+        × Lent (now (joined .exit)) (now (limits .exit)) (now (offsets .exit)) (now (used .exit)) (now (tree .exit)) ⌝ }
 {
     let mut end = at;
     for i in 0usize..k {
@@ -191,6 +201,7 @@ fn walk(
             paid,
             joined,
             limits,
+            offsets,
             used,
             tree,
             end,

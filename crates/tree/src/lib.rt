@@ -11,7 +11,6 @@ use record::Refusal;
 use search::net;
 use split::columns;
 ghost use mathlib.Core.Path.{_≡_};
-ghost use Prim.Native.Nat.{_*_};
 ghost use lib.ListN.{length};
 ghost use Rattle.record.specs.Bytes.{over};
 ghost use Rattle.matrix.specs.Check.{checked};
@@ -20,7 +19,7 @@ ghost use Rattle.answer.specs.Content.{fileOf};
 ghost use Rattle.search.specs.Workspace.{cleared};
 ghost use Rattle.split.specs.Columns.{matrixIn};
 ghost use Rattle.taxa.specs.Sets.{all};
-ghost use Rattle.method.specs.Tree.{column, ordered, flipList};
+ghost use Rattle.method.specs.Tree.{column, oneEntries, ordered, flipList};
 ghost use Rattle.tree.specs.Lists.{firstGroups, Room, unweighed};
 ghost use Rattle.tree.specs.Grow.{entriesFor, LentLists, Ready, Grown, walkFrom, Walked, Answers};
 ghost use Rattle.tree.specs.Build.{contentWith, contentFor, takenOf, Buildable, answered, outputAfter, workspaceAfter, Builds};
@@ -98,6 +97,7 @@ fn grow_all(
     let mut list = [0u64; 128];
     let mut joined = [0u64; 256];
     let mut limits = [0u32; 256];
+    let mut offsets = [0u16; 257];
     let mut used = [0u32; 256];
     let mut tree = [0u32; 256];
     grow::grow(
@@ -113,19 +113,28 @@ fn grow_all(
         paid,
         &mut joined,
         &mut limits,
+        &mut offsets,
         &mut used,
         &mut tree,
         0,
     )
 }
 
-// A matrix that nothing refuses, built: its columns are loaded and flipped as the tree grows, and what they were is read from the file again.
-fn build_loaded(file: &[u8], n: u16, m: u16, workspace: &mut [i32], out: &mut [u8]) -> Built
-    requires { ⌜ Buildable (now file) n m (length (now workspace)) (length (now out)) ⌝ }
+// A matrix that nothing refuses, built: its columns are loaded and flipped as the tree grows, and what they were is read from the file again. The
+// workspace is cleared once: each split leaves it so.
+fn build_loaded(
+    file: &[u8],
+    n: u16,
+    m: u16,
+    needed: usize,
+    workspace: &mut [i32],
+    out: &mut [u8],
+) -> Built
+    requires { ⌜ Buildable (now file) n m (length (now workspace)) (length (now out)) × (needed ≡ oneEntries (matrixIn (now file))) ⌝ }
     ensures { λ r. ⌜
         (r ≡ takenOf (now (file .entry)))
         × (now (out .exit) ≡ over (fileOf (contentFor (matrixIn (now (file .entry))))) 0 (now (out .entry)))
-        × (now (workspace .exit) ≡ cleared (n * m) (now (workspace .entry))) ⌝ }
+        × (now (workspace .exit) ≡ cleared (oneEntries (matrixIn (now (file .entry)))) (now (workspace .entry))) ⌝ }
 {
     let columns = m as usize;
     let planes = matrix::planes_in(file);
@@ -138,7 +147,7 @@ fn build_loaded(file: &[u8], n: u16, m: u16, workspace: &mut [i32], out: &mut [u
         &mut ones[..columns],
         &mut zeros[..columns],
     );
-    net::clear(workspace, n as usize * columns);
+    net::clear(workspace, needed);
     let mut walked = [0u64; 63];
     let mut paid = [0u32; 63];
     let k = grow_all(
@@ -163,7 +172,8 @@ fn build_matrix(file: &[u8], n: u16, m: u16, workspace: &mut [i32], out: &mut [u
         × (now (workspace .exit) ≡ workspaceAfter (now (file .entry)) r (now (workspace .entry))) ⌝ }
 {
     let columns = m as usize;
-    if workspace.len() < n as usize * columns {
+    let needed = columns::one_entries(file, columns);
+    if workspace.len() < needed {
         return Built::Refused(Refusal {
             number: 9,
             place: 0,
@@ -175,7 +185,7 @@ fn build_matrix(file: &[u8], n: u16, m: u16, workspace: &mut [i32], out: &mut [u
             place: 0,
         });
     }
-    build_loaded(file, n, m, workspace, out)
+    build_loaded(file, n, m, needed, workspace, out)
 }
 
 // The operation "build".

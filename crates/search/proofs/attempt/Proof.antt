@@ -4,9 +4,9 @@ use borrow.Author.Tests.{not-true, not-false}
 use native.Mathlib.Omega.{arith}
 use mathlib.Core.Path.{_≡_, sym, _∙_}
 use mathlib.Core.Bool.{true}
-use Prim.Native.Nat.{_*_}
-use Rattle.taxa.specs.Sets.{has, all, _∩_}
+use Rattle.taxa.specs.Sets.{has, all, _∩_, sizes}
 use Rattle.taxa.proofs.Members.{in-pos, low-in}
+use Rattle.search.specs.Network.{nth}
 use Rattle.search.specs.Flows.{Largest}
 use Rattle.search.specs.Trying.{ties}
 use Rattle.search.proofs.Workspace.{kept-none}
@@ -18,7 +18,7 @@ returns : tie.Need-returns
 returns c =
     let a = c .before .before .before .args in
     let p = c .before .before .before .pre in
-    (tried-skip (p .5) (sym (c .before .contains .ensures) ∙ not-true (c .before .contains .result) (c .if1 .taken)), kept-none (a .n * a .m) (a .ws .now), p .6)
+    (tried-skip (p .5) (sym (c .before .contains .ensures) ∙ not-true (c .before .contains .result) (c .if1 .taken)), kept-none (sizes (a .m) (nth (a .joined .now))) (a .ws .now), p .6)
 
 -- The way back to the start, and that u is in the group.
 abbrev begun : tie.Else1 → tie.Start
@@ -41,7 +41,7 @@ returns-2 c =
     let start = begun (t .before .before .before) in
     let a = start .args in
     let p = start .pre in
-    (tried-tied (p .5) (p .0) (p .4) (omega (arith, is-tied t, c .if2 .taken)), kept-none (a .n * a .m) (a .ws .now), p .6)
+    (tried-tied (p .5) (p .0) (p .4) (omega (arith, is-tied t, c .if2 .taken)), kept-none (sizes (a .m) (nth (a .joined .now))) (a .ws .now), p .6)
 
 -- The way back from the flow.
 abbrev lowered : tie.Else2 → tie.After-common
@@ -60,7 +60,7 @@ largest-requires c κs =
 -- A largest flow from those taxa.
 is-largest : (c : tie.After-largest) →
     let a = begun (lowered (tested c) .before .before) .args in
-    Largest (a .weights .now) (a .planes .now) (a .joined .now) (a .limits .now) (a .n) (a .m) (c .largest .last .1 .1 .1 .1 .1 .1 .0) (a .group ∩ all (a .u)) (a .u) (a .best .cost) (c .largest .result .size) (c .largest .result .side)
+    Largest (a .weights .now) (a .planes .now) (a .joined .now) (a .limits .now) (a .n) (a .m) (c .largest .last .1 .1 .1 .1 .1 .1 .1 .0) (a .group ∩ all (a .u)) (a .u) (a .best .cost) (c .largest .result .size) (c .largest .result .side)
 is-largest c = rw (is-lower (lowered (tested c))) at (c .largest .ensures .0)
 
 returns-3 : tie.Need-returns-3

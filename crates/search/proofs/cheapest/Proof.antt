@@ -2,13 +2,13 @@
 use borrow.Author.Needs.{needs}
 use native.Mathlib.Omega.{arith}
 use mathlib.Core.Path.{_≡_}
-use Prim.Native.Nat.{_<_, _≤_, _-_, _*_, _^_}
+use Prim.Native.Nat.{_<_, _≤_, _-_, _^_}
 use lib.Pow.{pow-lt}
-use Rattle.taxa.specs.Sets.{low}
+use Rattle.taxa.specs.Sets.{sizes, low}
 use Rattle.taxa.proofs.Counts.{count-pos}
 use Rattle.taxa.proofs.Members.{in-pos}
 use Rattle.search.specs.Workspace.{Kept}
-use Rattle.search.specs.Network.{Spare}
+use Rattle.search.specs.Network.{nth, Spare}
 use Rattle.search.specs.Trying.{Tried}
 use Rattle.search.proofs.Workspace.{kept-none, kept-then}
 use Rattle.search.proofs.Group.{pow-off, stands, tried-one, source-is, some-rest, second, Second}
@@ -16,11 +16,11 @@ use Rattle.search.proofs.cheapest.Statement.{statement}
 use Rattle.search.proofs.cheapest.Tie as tie
 
 abbrev Inv-loop : tie.InvT-loop
-Inv-loop weights planes joined limits group n m ws₀ used₀ tree₀ source t best₀ u₀ ws used tree best u =
-    (low n group < u) × (u ≤ n) × Tried weights planes joined limits n m group (low n group) u (best .cost) (best .other) × Kept (n * m) ws₀ ws × Spare used tree
+Inv-loop weights planes joined limits offsets group n m ws₀ used₀ tree₀ source t best₀ u₀ ws used tree best u =
+    (low n group < u) × (u ≤ n) × Tried weights planes joined limits n m group (low n group) u (best .cost) (best .other) × Kept (sizes m (nth joined)) ws₀ ws × Spare used tree
 
 abbrev μ-loop : tie.MeasureT-loop
-μ-loop weights planes joined limits group n m ws₀ used₀ tree₀ source t best₀ u₀ ws used tree best u = n - u
+μ-loop weights planes joined limits offsets group n m ws₀ used₀ tree₀ source t best₀ u₀ ws used tree best u = n - u
 
 lowest-requires : tie.Need-lowest-requires Inv-loop μ-loop
 lowest-requires c κs = count-pos (c .before .args .n) (omega (arith, c .before .pre .3))
@@ -70,7 +70,7 @@ loop-holds c =
     let a = begun l .args in
     let w = next l in
     let f = rw (is-source l) at (c .before .largest .ensures) in
-    (omega (arith, w .order), omega (arith, w .small), tried-one (source-low l) (w .in-t) (w .others) (stands (f .0) (omega (arith, f .0 .small))), kept-none (a .n * a .m) (c .before .largest .last .1 .1 .1 .1 .1 .1 .0), f .2)
+    (omega (arith, w .order), omega (arith, w .small), tried-one (source-low l) (w .in-t) (w .others) (stands (f .0) (omega (arith, f .0 .small))), kept-none (sizes (a .m) (nth (a .joined .now))) (c .before .largest .last .1 .1 .1 .1 .1 .1 .1 .0), f .2)
 
 attempt-requires : tie.Need-attempt-requires Inv-loop μ-loop
 attempt-requires c κs =

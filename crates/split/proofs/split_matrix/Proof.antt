@@ -10,7 +10,7 @@ use Rattle.taxa.specs.Sets.{within, all}
 use Rattle.taxa.proofs.Members.{within-⊆}
 use Rattle.record.specs.Bytes.{File}
 use Rattle.split.specs.Operation.{Splittable}
-use Rattle.split.proofs.Soundness.{few-taxa, few-columns, few-pairs}
+use Rattle.split.proofs.Soundness.{few-taxa, few-columns, can-load}
 use Rattle.split.proofs.Answering.{one-taxon, unknown-taxon, no-room, all-tested, cleared-after, left-alone}
 use Rattle.split.proofs.split_matrix.Statement.{statement}
 use Rattle.split.proofs.split_matrix.Tie as tie
@@ -43,27 +43,34 @@ tested c = rw (← c .before .all .ensures) (sym (c .subset .ensures))
 returns-2 : tie.Need-returns-2
 returns-2 c = (unknown-taxon _ _ _ _ _ (tested (c .before) ∙ not-true _ (c .if2 .taken)), left-alone _ _ _)
 
-mul-if3 : tie.Need-mul-if3
-mul-if3 c = let at = c .before .before .before .before .before in omega (arith, few-pairs (bytes at) (at .before .pre))
+one-entries-requires : tie.Need-one-entries-requires
+one-entries-requires c κs =
+    let at = c .before .before .before .before .before in
+    let fits = can-load (bytes at) (at .before .pre) refl in
+    (fits .0, fits .1, few-columns (bytes at) (at .before .pre))
 
 returns-3 : tie.Need-returns-3
-returns-3 c = let group = c .before in (no-room _ _ _ _ _ (omega arith) (tested (group .before) ∙ not-false _ (group .if2 .left)) (c .if3 .taken), left-alone _ _ _)
+returns-3 c =
+    let counted = c .before in
+    let group = counted .before in
+    (no-room _ _ _ _ _ (omega arith) (tested (group .before) ∙ not-false _ (group .if2 .left)) (omega (arith, c .if3 .taken, counted .one-entries .ensures)), left-alone _ _ _)
 
 -- Here nothing is refused.
 splittable : (c : tie.Else3) →
-    let args = c .before .before .before .before .before .before .before .args in
+    let args = c .before .before .before .before .before .before .before .before .args in
     Splittable (args .file .now) (args .group) (args .n) (args .m) (length (args .workspace .now))
 splittable c =
-    let group = c .before in
+    let counted = c .before in
+    let group = counted .before in
     record {
-      taken = c .before .before .before .before .before .before .before .pre;
+      taken = group .before .before .before .before .before .before .pre;
       two = omega arith;
       known = within-⊆ _ _ .0 (tested (group .before) ∙ not-false _ (group .if2 .left));
-      long = c .if3 .left;
+      long = omega (arith, c .if3 .left, counted .one-entries .ensures);
     }
 
-m-fits : (c : tie.Else3) → c .before .before .before .before .before .before .before .args .m ≤ 256
-m-fits c = let at = c .before .before .before .before .before .before in few-columns (bytes at) (at .before .pre)
+m-fits : (c : tie.Else3) → c .before .before .before .before .before .before .before .before .args .m ≤ 256
+m-fits c = let at = c .before .before .before .before .before .before .before in few-columns (bytes at) (at .before .pre)
 
 array-borrow-prefix-weights : tie.Need-array-borrow-prefix-weights
 array-borrow-prefix-weights c = m-fits c
@@ -84,7 +91,7 @@ slice-aggregate-split-loaded-3 : tie.Need-slice-aggregate-split-loaded-3
 slice-aggregate-split-loaded-3 c = sym (length-take-le _ _ (m-fits (c .before .before .before)))
 
 split-loaded-requires : tie.Need-split-loaded-requires
-split-loaded-requires c κs = let at = c .before .before .before .before in (splittable at, record { ones = refl; zeros = refl }, length-take-le _ _ (m-fits at))
+split-loaded-requires c κs = let at = c .before .before .before .before in (splittable at, record { ones = refl; zeros = refl }, length-take-le _ _ (m-fits at), at .before .one-entries .ensures)
 
 same-length : tie.Need-same-length
 same-length c = search needs
@@ -92,9 +99,8 @@ same-length c = search needs
 returns-4 : tie.Need-returns-4
 returns-4 c =
     let tested = c .before .before .before .before .before .before .before .before .before in
-    let at = tested .before .before .before .before .before .before in
     let e = c .before .before .before .before .split-loaded .ensures in
-    (e .0 ∙ all-tested _ _ _ _ _ (splittable tested), e .1 ∙ cleared-after (bytes at) (at .before .pre) _ _ (e .0))
+    (e .0 ∙ all-tested _ _ _ _ _ (splittable tested), e .1 ∙ cleared-after _ _ _ (tested .before .one-entries .ensures) (e .0))
 
 pub split-matrix-spec : {M : Type 1} → statement M
 split-matrix-spec =
@@ -106,7 +112,7 @@ split-matrix-spec =
     all-requires
     subset-requires
     returns-2
-    mul-if3
+    one-entries-requires
     returns-3
     array-borrow-prefix-weights
     slice-aggregate-split-loaded

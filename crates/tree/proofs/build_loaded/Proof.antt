@@ -13,7 +13,7 @@ use Rattle.method.specs.Tree.{column}
 use Rattle.search.specs.Search.{colsOf}
 use Rattle.split.specs.Columns.{matrixIn}
 use Rattle.tree.specs.Grow.{entriesFor}
-use Rattle.split.proofs.Soundness.{can-load, few-columns, few-pairs, read-multiplicities}
+use Rattle.split.proofs.Soundness.{can-load, few-columns, read-multiplicities}
 use Rattle.tree.proofs.Building.{front-fits, still-long, lent-columns, lent-ready, lent-room, to-write, built-content, answers-all}
 use Rattle.tree.proofs.build_loaded.Statement.{statement}
 use Rattle.tree.proofs.build_loaded.Tie as tie
@@ -43,7 +43,7 @@ bytes : (c : tie.After-slice-known) → File (begun c .args .file .now)
 bytes c = record { byte = λ i. omega (arith, c .before .shared-slice-known .given i) }
 
 m-fits : (c : tie.After-slice-known) → begun c .args .m ≤ 256
-m-fits c = few-columns (bytes c) (begun c .pre .taken)
+m-fits c = few-columns (bytes c) (begun c .pre .0 .taken)
 
 -- ---- what the calls ask for
 
@@ -51,7 +51,7 @@ load-requires : tie.Need-load-requires
 load-requires c κs =
     let at = c .before .before .before .before in
     let long = length-take-le _ _ (m-fits at) in
-    let fits = can-load (bytes at) (begun at .pre .taken) long in
+    let fits = can-load (bytes at) (begun at .pre .0 .taken) long in
     (record { ones = length-take-le _ _ (m-fits at) ∙ sym long; zeros = length-take-le _ _ (m-fits at) ∙ sym long }, fits .0, fits .1)
 
 -- What the planes hold are the file's multiplicities.
@@ -59,7 +59,7 @@ abbrev planes : tie.After-load → List ℕ
 planes c = read c .planes-in .result
 
 multiplicities : (c : tie.After-load) → multiplicityIn (planes c) ≡ multiplicity (matrixIn (begun (empty c) .args .file .now) .multiplicities)
-multiplicities c = read-multiplicities (bytes (empty c)) (begun (empty c) .pre .taken) (planes c) (read c .planes-in .ensures .0)
+multiplicities c = read-multiplicities (bytes (empty c)) (begun (empty c) .pre .0 .taken) (planes c) (read c .planes-in .ensures .0)
 
 -- What was loaded.
 loaded-all : (c : tie.After-load) → length (c .load .last .1 .0) ≡ begun (empty c) .args .m
@@ -70,11 +70,11 @@ grow-all-requires c κs =
     let clear = c .before .before .before .before .before .before .before .before in
     let load = loaded clear in
     let f = bytes (empty load) in
-    let b = begun (empty load) .pre in
+    let (b, counted) = begun (empty load) .pre in
     let l = load .load in
     let sized = loaded-all load in (
       (
-        lent-ready f b (l .last .1 .0) (planes load) (l .last .1 .1 .0) (l .last .1 .1 .1 .0) _ _ _ (l .ensures .1) sized (multiplicities load) (read load .planes-in .ensures .1) _ (clear .clear .ensures) (clear .clear .kept .0),
+        lent-ready f b (l .last .1 .0) (planes load) (l .last .1 .1 .0) (l .last .1 .1 .1 .0) _ _ _ (l .ensures .1) sized (l .ensures .0) (multiplicities load) (read load .planes-in .ensures .1) _ counted (clear .clear .ensures) refl,
         record {
           ones = still-long (l .last .1 .1 .0) _ (l .ensures .1 .ones ∙ sized) (m-fits (empty load));
           zeros = still-long (l .last .1 .1 .1 .0) _ (l .ensures .1 .zeros ∙ sized) (m-fits (empty load));
@@ -103,7 +103,7 @@ zeros c = c .load .last .1 .1 .1 .0 ++ others c
 columns : (c : tie.After-load) → colsOf (weights c) (entriesFor (weights c) (ones c)) (entriesFor (weights c) (zeros c)) ≡ column (matrixIn (begun (empty c) .args .file .now) .columns)
 columns c =
     let l = c .load in
-    lent-columns (bytes (empty c)) (begun (empty c) .pre) (l .last .1 .0) (planes c) (l .last .1 .1 .0) (l .last .1 .1 .1 .0) _ _ _ (l .ensures .1) (loaded-all c) (l .ensures .0)
+    lent-columns (bytes (empty c)) (begun (empty c) .pre .0) (l .last .1 .0) (planes c) (l .last .1 .1 .0) (l .last .1 .1 .1 .0) _ _ _ (l .ensures .1) (loaded-all c) (l .ensures .0)
 
 sized : (c : tie.After-load) → length (weights c) ≡ begun (empty c) .args .m
 sized c = length-take-le _ _ (front-fits (c .load .last .1 .0) _ (loaded-all c))
@@ -114,7 +114,7 @@ write-answer-requires c κs =
     let load = loaded (cleared walk) in
     let at = empty load in
     let now = walk .grow-all .last in
-    to-write (bytes at) (begun at .pre) (weights load) (planes load) (ones load) (zeros load) (now .1 .1 .0) (now .1 .1 .1 .0) _ _ _ _ _ (multiplicities load) (columns load) (sized load) (walk .grow-all .ensures .0) (walk .grow-all .ensures .1)
+    to-write (bytes at) (begun at .pre .0) (weights load) (planes load) (ones load) (zeros load) (now .1 .1 .0) (now .1 .1 .1 .0) _ _ _ _ _ (multiplicities load) (columns load) (sized load) (walk .grow-all .ensures .0) (walk .grow-all .ensures .1)
 
 returns : tie.Need-returns
 returns c =
@@ -123,15 +123,15 @@ returns c =
     let load = loaded (cleared walk) in
     let at = empty load in
     let now = walk .grow-all .last in
-    let content = built-content (bytes at) (begun at .pre) (weights load) (planes load) (ones load) (zeros load) (now .1 .1 .0) (now .1 .1 .1 .0) _ _ _ _ _ (multiplicities load) (columns load) (sized load) (walk .grow-all .ensures .0) in
-    let (taken, output) = answers-all (bytes at) (begun at .pre) content refl (written .write-answer .ensures) in
-    (taken, output, walk .grow-all .ensures .0 .workspace ∙ cleared walk .clear .ensures)
+    let content = built-content (bytes at) (begun at .pre .0) (weights load) (planes load) (ones load) (zeros load) (now .1 .1 .0) (now .1 .1 .1 .0) _ _ _ _ _ (multiplicities load) (columns load) (sized load) (walk .grow-all .ensures .0) in
+    let (taken, output) = answers-all (bytes at) (begun at .pre .0) content refl (written .write-answer .ensures) in
+    (taken, output, walk .grow-all .ensures .0 .workspace ∙ rw (← begun at .pre .1) (cleared walk .clear .ensures))
 
 pub build-loaded-spec : {M : Type 1} → statement M
 build-loaded-spec =
     tie.close
     (tie.spec
-    (λ c κs. taken-multiplied (bytes c) (begun c .pre .taken))
+    (λ c κs. taken-multiplied (bytes c) (begun c .pre .0 .taken))
     (λ c. m-fits (c .before))
     (λ c. sym (length-take-le _ _ (m-fits (c .before .before))))
     (λ c. m-fits (c .before .before))
@@ -139,8 +139,7 @@ build-loaded-spec =
     (λ c. m-fits (c .before .before .before))
     (λ c. sym (length-take-le _ _ (m-fits (c .before .before .before .before))))
     load-requires
-    (λ c. let at = empty (c .before .before .before .before) in omega (arith, few-pairs (bytes at) (begun at .pre .taken)))
-    (λ c κs. search needs)
+    (λ c κs. let (b, counted) = begun (empty (c .before .before .before .before)) .pre in omega (arith, b .places))
     (λ c. let load = loaded (c .before) in front-fits (load .load .last .1 .0) _ (loaded-all load))
     (λ c. let load = loaded (c .before .before) in sym (length-take-le _ _ (front-fits (load .load .last .1 .0) _ (loaded-all load))))
     grow-all-requires

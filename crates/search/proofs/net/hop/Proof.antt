@@ -1,34 +1,49 @@
--- `net::hop` meets its contract: it is one `send` between the two slots.
-use Prim.Native.Nat.{_*_}
-use native.Mathlib.Omega.{arith}
+-- `net::hop` meets its contract: it is one `send` between the places of the two pairs.
+use Prim.Native.Nat.{ℕ}
+use mathlib.Core.Path.{_≡_, _∙_}
 use borrow.Author.Needs.{needs}
+use Rattle.taxa.specs.Sets.{sizes}
 use Rattle.search.specs.Workspace.{slot}
-use Rattle.search.proofs.Workspace.{slot-lt, can-send, hopped, sent-kept}
+use Rattle.search.specs.Network.{nth}
+use Rattle.search.proofs.Workspace.{slot-lt, column-place, can-send, hopped, sent-kept}
 use Rattle.search.proofs.net.hop.Statement.{statement}
 use Rattle.search.proofs.net.hop.Tie as tie
 
-slot-requires : tie.Need-slot-requires
-slot-requires c κs = let r = can-send (c .pre) in omega (arith, r .from)
+-- The two places.
+from : (c : tie.After-slot) → let a = c .before .before .args in c .slot .result ≡ slot (nth (a .joined .now)) (a .c) (a .i)
+from c = c .slot .ensures ∙ column-place (c .before .before .args .i) (c .before .column-at .ensures .0)
 
-slot-requires-2 : tie.Need-slot-requires-2
-slot-requires-2 c κs = let r = can-send (c .before .pre) in omega (arith, r .to)
+to : (c : tie.After-slot2) → let a = c .before .before .before .args in c .slot2 .result ≡ slot (nth (a .joined .now)) (a .c) (a .j)
+to c = c .slot2 .ensures ∙ column-place (c .before .before .before .args .j) (c .before .before .column-at .ensures .0)
 
 send-requires : tie.Need-send-requires
-send-requires c κs = rw (c .before .before .slot .ensures, c .before .slot2 .ensures) (can-send (c .before .before .before .pre))
-
-same-length : tie.Need-same-length
-same-length c = search needs
+send-requires c κs =
+    let start = c .before .before .before .before in
+    let a = start .args in
+    rw (from (c .before .before), to (c .before)) (can-send (a .ws .now) (a .joined .now) (a .offsets .now) (a .c) (a .i) (a .j) (a .d) (start .pre))
 
 returns : tie.Need-returns
 returns c =
-    let p = c .before .before .before .before .before .pre in
-    let a = c .before .before .before .before .before .args in
-    let ws = a .ws .now in
-    let e = rw (c .before .before .before .before .slot .ensures, c .before .before .before .slot2 .ensures) at (c .before .send .ensures) in
+    let second = c .before .before .before in
+    let start = second .before .before .before in
+    let p = start .pre in
+    let a = start .args in
+    let row = nth (a .joined .now) in
+    let e = rw (from (second .before), to second) at (c .before .send .ensures) in
     rw e (
-      hopped ws (a .n) (a .m) (a .c) (a .i) (a .j) (a .d) (p .column) (p .from) (p .to) (p .apart) (p .places),
-      sent-kept (a .n * a .m) ws (slot (a .n) (a .c) (a .i)) (slot (a .n) (a .c) (a .j)) (a .d) (slot-lt (a .n) (a .m) (a .c) (a .i) (p .column) (p .from)) (slot-lt (a .n) (a .m) (a .c) (a .j) (p .column) (p .to)),
+      hopped (a .ws .now) (a .joined .now) (a .offsets .now) (a .c) (a .i) (a .j) (a .d) p,
+      λ m b.
+          sent-kept (sizes m row) (a .ws .now) (slot row (a .c) (a .i)) (slot row (a .c) (a .j)) (a .d)
+          (slot-lt row m (a .c) (a .i) b (p .from .taxon) (p .from .joins)) (slot-lt row m (a .c) (a .j) b (p .to .taxon) (p .to .joins)),
     )
 
 pub hop-spec : {M : Type 1} → statement M
-hop-spec = tie.close (tie.spec slot-requires slot-requires-2 send-requires same-length returns)
+hop-spec =
+    tie.close
+    (tie.spec
+    (λ c κs. let p = c .pre .from in (p .column, p .offset))
+    (λ c κs. (c .before .pre .from .taxon, c .column-at .ensures .1))
+    (λ c κs. (c .before .before .pre .to .taxon, c .before .column-at .ensures .1))
+    send-requires
+    (λ c. search needs)
+    returns)

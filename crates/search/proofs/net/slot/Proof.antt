@@ -1,20 +1,15 @@
--- `net::slot` meets its contract.
+-- `net::slot` meets its contract: the column's offset, and the taxon's rank in what the column joins.
+use borrow.Author.Needs.{needs}
 use native.Mathlib.Omega.{arith}
-use Rattle.search.specs.Workspace.{slot}
 use Rattle.search.proofs.net.slot.Statement.{statement}
 use Rattle.search.proofs.net.slot.Tie as tie
 
-mul-result : tie.Need-mul-result
-unfolding slot
-mul-result c = omega (arith, c .pre)
-
-add-result : tie.Need-add-result
-unfolding slot
-add-result c = omega (arith, c .pre)
-
-returns : tie.Need-returns
-unfolding slot
-returns c = omega arith
-
 pub slot-spec : {M : Type 1} → statement M
-slot-spec = tie.close (tie.spec mul-result add-result returns)
+slot-spec =
+    tie.close
+    (tie.spec
+    (λ c. search needs)
+    (λ c κs. search needs)
+    (λ c. search needs)
+    (λ c. search needs)
+    (λ c. omega (arith, c .before .rank .ensures)))

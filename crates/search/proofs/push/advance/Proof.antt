@@ -5,20 +5,21 @@ use native.Mathlib.Omega.{arith}
 use mathlib.Core.Bool.{true}
 use mathlib.Core.Path.{_≡_, sym, _∙_}
 use Prim.Native.Nat.{_+_, _*_, _<_}
-use Rattle.taxa.specs.Sets.{has}
+use Rattle.taxa.specs.Sets.{has, sizes}
+use Rattle.search.specs.Network.{nth}
 use Rattle.search.specs.Flows.{Advanced}
 use Rattle.search.specs.Reaching.{widthOf, turnOf}
 use Rattle.search.proofs.Workspace.{kept-none}
-use Rattle.search.proofs.Flows.{Under, under-start, under-low, not-root, is-root, under-turn, can-hop, under-step, stayed, went, size-small}
+use Rattle.search.proofs.Flows.{Under, under-start, under-low, not-root, is-root, under-via, under-turn, can-hop, under-step, stayed, went, size-small}
 use Rattle.search.proofs.push.advance.Statement.{statement}
 use Rattle.search.proofs.push.advance.Tie as tie
 
 abbrev Inv-loop : tie.InvT-loop
-Inv-loop weights planes joined limits n m ws₀ used₀ tree sources t size goal first met d j₀ ws used j =
-    Under weights planes joined limits n m ws₀ used₀ sources t size met tree d ws used j
+Inv-loop weights planes joined limits offsets n m ws₀ used₀ tree sources t size goal first met d j₀ ws used j =
+    Under weights planes joined limits offsets n m ws₀ used₀ sources t size met tree d ws used j
 
 abbrev μ-loop : tie.MeasureT-loop
-μ-loop weights planes joined limits n m ws₀ used₀ tree sources t size goal first met d j₀ ws used j = turnOf tree j
+μ-loop weights planes joined limits offsets n m ws₀ used₀ tree sources t size goal first met d j₀ ws used j = turnOf tree j
 
 -- The way back from the test of t to the start.
 abbrev begun : tie.Else1 Inv-loop μ-loop → tie.Start Inv-loop μ-loop
@@ -61,7 +62,7 @@ returns c =
     let reach = contains .before in
     let start = c .before .before .before .before .before .before .before .before .before .before in (
       stayed (start .pre .0) (reach .reach .ensures .0) (reach .before .before .before .before .before .before .single .ensures) (sym (contains .contains .ensures) ∙ not-true (contains .contains .result) (c .if1 .taken)),
-      kept-none (start .args .n * start .args .m) (start .args .ws .now),
+      kept-none (sizes (start .args .m) (nth (start .args .joined .now))) (start .args .ws .now),
       reach .reach .ensures .1,
     )
 
@@ -134,7 +135,9 @@ loop-again c =
     let u = at .before .before .loop .inv in
     let index = c .before .before .before .before .before .before .index2 .ensures in
     let h = rw (index, c .before .before .before .before .index3 .ensures) at (c .before .step .ensures) in
-    rw index (under-step u (not-root u (at .if2 .taken)) (h .0) (h .1) (h .2))
+    let a = begun (at .before .before .before .before) .args in
+    let root = not-root u (at .if2 .taken) in
+    rw index (under-step u root (h .0 (a .m)) (h .1 (a .m) (under-via u root)) (h .2))
 
 -- The loop ends at a source.
 ends : (c : tie.Else2 Inv-loop μ-loop) → has (begun (c .before .before .before .before) .args .sources) (c .before .before .loop .j) ≡ true
@@ -144,14 +147,14 @@ ends c = is-root (c .before .before .loop .inv) (omega arith)
 pushed : (c : tie.Else2 Inv-loop μ-loop) →
     let a = begun (c .before .before .before .before) .args in
     let r = c .before .before .before .before .before .before .reach in
-    Advanced (a .weights .now) (a .planes .now) (a .joined .now) (a .limits .now) (a .n) (a .m) (c .before .before .loop .ws) (c .before .before .loop .used) (a .sources) (a .t) (a .size)
-    (a .size + widthOf (r .last .1 .1 .1 .1 .1 .1 .1 .1 .0) (a .t)) (r .result)
+    Advanced (a .weights .now) (a .planes .now) (a .joined .now) (a .limits .now) (a .offsets .now) (a .n) (a .m) (c .before .before .loop .ws) (c .before .before .loop .used) (a .sources) (a .t) (a .size)
+    (a .size + widthOf (r .last .1 .1 .1 .1 .1 .1 .1 .1 .1 .0) (a .t)) (r .result)
 pushed c =
     let x = c .before .before .before .before in
     went (c .before .before .loop .inv) (ends c) (reached x) (x .before .before .reach .ensures .0 .tree .link (begun x .args .t) (reached x) (begun x .pre .0 .apart) .some)
 
-add-t20 : tie.Need-add-t20 Inv-loop μ-loop
-add-t20 c = omega (arith, size-small (pushed c .stage .flowing))
+add-t21 : tie.Need-add-t21 Inv-loop μ-loop
+add-t21 c = omega (arith, size-small (pushed c .stage .flowing))
 
 same-length-2 : tie.Need-same-length-2 Inv-loop μ-loop
 same-length-2 c = c .before .before .loop .inv .kept .long
@@ -198,6 +201,6 @@ advance-spec =
     step-requires
     loop-less
     loop-again
-    add-t20
+    add-t21
     same-length-2
     returns-2)

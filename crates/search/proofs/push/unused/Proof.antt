@@ -8,7 +8,7 @@ use Rattle.search.proofs.push.unused.Statement.{statement}
 use Rattle.search.proofs.push.unused.Tie as tie
 
 abbrev Inv-loop : tie.InvT-loop
-Inv-loop used₀ m c₀ used c = (c ≤ m) × Table (λ e. 0) used c
+Inv-loop used₀ m c₀ used c = (c ≤ m) × Table 256 (λ e. 0) used c
 
 abbrev μ-loop : tie.MeasureT-loop
 μ-loop used₀ m c₀ used c = m - c

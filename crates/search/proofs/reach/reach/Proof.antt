@@ -9,10 +9,10 @@ use Rattle.search.proofs.reach.reach.Statement.{statement}
 use Rattle.search.proofs.reach.reach.Tie as tie
 
 abbrev Inv-loop : tie.InvT-loop
-Inv-loop weights planes joined limits n m ws used tree₀ sources goal first met₀ next₀ tree met next = Swept weights planes joined limits n m ws sources met next tree goal 0
+Inv-loop weights planes joined limits offsets n m ws used tree₀ sources goal first met₀ next₀ tree met next = Swept weights planes joined limits n m ws sources met next tree goal 0
 
 abbrev μ-loop : tie.MeasureT-loop
-μ-loop weights planes joined limits n m ws used tree₀ sources goal first met₀ next₀ tree met next = all n - met
+μ-loop weights planes joined limits offsets n m ws used tree₀ sources goal first met₀ next₀ tree met next = all n - met
 
 plant-requires : tie.Need-plant-requires Inv-loop μ-loop
 plant-requires c κs = c .before .before .pre .1

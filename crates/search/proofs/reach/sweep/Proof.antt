@@ -7,10 +7,10 @@ use Rattle.search.proofs.reach.sweep.Statement.{statement}
 use Rattle.search.proofs.reach.sweep.Tie as tie
 
 abbrev Inv-loop : tie.InvT-loop
-Inv-loop weights planes joined limits n m ws used tree₀ sources met goal first all₀ c₀ tree all c = Over weights planes joined limits n m ws sources met all tree first c
+Inv-loop weights planes joined limits offsets n m ws used tree₀ sources met goal first all₀ c₀ tree all c = Over weights planes joined limits n m ws sources met all tree first c
 
 abbrev μ-loop : tie.MeasureT-loop
-μ-loop weights planes joined limits n m ws used tree₀ sources met goal first all₀ c₀ tree all c = m - c
+μ-loop weights planes joined limits offsets n m ws used tree₀ sources met goal first all₀ c₀ tree all c = m - c
 
 loop-holds : tie.Need-loop-holds Inv-loop μ-loop
 loop-holds c = over-none (c .before .pre .1)

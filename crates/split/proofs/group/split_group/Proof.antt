@@ -9,7 +9,7 @@ returns c =
     let listed = c .before .before in
     let flips = listed .before .before .before .before .before .before .before .before in
     let found = flips .before .before .before .before in
-    let begun = found .before .before .before .before .before .before .before .before .before .before .before .before in
+    let begun = found .before .before .before .before .before .before .before .before .before .before .before .before .before in
     (handed-on (begun .pre .0 .positive) (found .divide .ensures .0) (flips .flip-columns .ensures .0) (flips .flip-columns .ensures .1) (listed .parts .ensures), found .divide .ensures .1, found .divide .ensures .2)
 
 pub split-group-spec : {M : Type 1} → statement M

@@ -1,11 +1,10 @@
 -- The proof of the cycle of calls {grow, walk}: a group has more taxa than each of its parts, so 2k + 1 falls for a group of k, and 2k for the walk over
--- the parts of one. The walk's invariant: what is left to walk comes to what all comes to.
+-- the parts of one. The walk's invariant: what is left to walk comes to what all comes to, and the workspace is enough for it.
 use Prim.Native.Nat.{ℕ, _+_, _-_, _*_, _≤_, _<_}
 use borrow.Author.Needs.{needs}
 use native.Mathlib.Omega.{arith}
 use mathlib.Core.Path.{_≡_, refl, _∙_}
-use lib.ListN.{length, take}
-use lib.Pow.{pow-pos}
+use lib.ListN.{length, take, drop}
 use lib.Seq.{length-take-le}
 use borrow.Rule.Slice.PartMut.{take-put}
 use Rattle.taxa.specs.Sets.{multiplicityIn, count}
@@ -14,9 +13,9 @@ use Rattle.search.specs.Network.{Lent}
 use Rattle.search.specs.Search.{colsOf}
 use Rattle.split.specs.Columns.{Parallel}
 use Rattle.tree.specs.Lists.{firstGroups}
-use Rattle.tree.specs.Grow.{entriesFor, LentLists}
-use Rattle.tree.proofs.Walking.{Going, going-start, going-room, going-next, going-end, one-taxon, still-listed, rest-length, ready-part, ready-wide}
-use Rattle.tree.proofs.Opening.{search-given, listed-parts, listed-fits, parts-ready, parts-room, grown-group, first-room}
+use Rattle.tree.specs.Grow.{entriesFor, LentLists, TurnsClear}
+use Rattle.tree.proofs.Walking.{Going, going-start, going-room, going-next, going-end, one-taxon, still-listed, rest-length, loaded-as, part-ready, turns-on, ready-wide}
+use Rattle.tree.proofs.Opening.{search-given, listed-parts, listed-fits, parts-ready, parts-clear, parts-room, grown-group, first-room}
 use borrow.Fn.Kinds.{In}
 use borrow.Fn.PlainCycle.{Measures, is, falls, and}
 use Rattle.tree.proofs.grow.grow.Reads as grow
@@ -31,35 +30,36 @@ use Rattle.tree.proofs.order.put_group.Reads as put-group-reads
 use Rattle.tree.proofs.grow.+grow+walk.{statement}
 use Rattle.tree.proofs.grow.+grow+walk.Tie.{close}
 
-abbrev μ-grow : Measures 12 grow-kinds.ps ℕ
+abbrev μ-grow : Measures 13 grow-kinds.ps ℕ
 μ-grow κs a = 2 * count 64 (a .1 .1 .1 .1 .1 .1 .0) + 1
 
-abbrev μ-walk : Measures 12 walk-kinds.ps ℕ
+abbrev μ-walk : Measures 13 walk-kinds.ps ℕ
 μ-walk κs a = 2 * a .1 .1 .1 .1 .1 .1 .1 .1 .0
 
 abbrev Inv : walk-lts.InvT-loop
-Inv weights planes ones₀ zeros₀ ws₀ n list₀ k bound walked₀ paid₀ joined₀ limits₀ used₀ tree₀ at end₀ i₀ ones zeros ws list found paid joined limits used tree end i =
+Inv weights planes ones₀ zeros₀ ws₀ n list₀ k bound walked₀ paid₀ joined₀ limits₀ offsets₀ used₀ tree₀ at end₀ i₀ ones zeros ws list found paid joined limits offsets used tree end i =
     (i ≤ k) × Parallel weights (entriesFor weights ones) (entriesFor weights zeros) × (ws ≡ ws₀) × (length list ≡ length list₀) × (take k list ≡ take k list₀)
     × LentLists ones zeros found paid
     × Going (build 64 (multiplicityIn planes) (length weights)) (take k list₀) (colsOf weights (entriesFor weights ones₀) (entriesFor weights zeros₀))
     (colsOf weights (entriesFor weights ones) (entriesFor weights zeros)) (firstGroups walked₀ paid₀ at) (firstGroups found paid end) at end i
-    × Lent joined limits used tree
+    × Lent joined limits offsets used tree
+    × TurnsClear weights planes (entriesFor weights ones) (entriesFor weights zeros) (drop i (take k list₀)) ws₀
 
 abbrev μ-loop : walk-lts.MeasureT-loop
-μ-loop weights planes ones₀ zeros₀ ws₀ n list₀ k bound walked₀ paid₀ joined₀ limits₀ used₀ tree₀ at end₀ i₀ ones zeros ws list found paid joined limits used tree end i = k - i
+μ-loop weights planes ones₀ zeros₀ ws₀ n list₀ k bound walked₀ paid₀ joined₀ limits₀ offsets₀ used₀ tree₀ at end₀ i₀ ones zeros ws list found paid joined limits offsets used tree end i = k - i
 
 module _ (t : ℕ) where
-  abbrev grow-at : In 12 grow-kinds.ps
-  grow-at = and 12 grow-kinds.ps (is 12 grow-kinds.ps μ-grow t) grow.Pre
+  abbrev grow-at : In 13 grow-kinds.ps
+  grow-at = and 13 grow-kinds.ps (is 13 grow-kinds.ps μ-grow t) grow.Pre
 
-  abbrev grow-below : In 12 grow-kinds.ps
-  grow-below = and 12 grow-kinds.ps (falls 12 grow-kinds.ps _<_ μ-grow t) grow.Pre
+  abbrev grow-below : In 13 grow-kinds.ps
+  grow-below = and 13 grow-kinds.ps (falls 13 grow-kinds.ps _<_ μ-grow t) grow.Pre
 
-  abbrev walk-at : In 12 walk-kinds.ps
-  walk-at = and 12 walk-kinds.ps (is 12 walk-kinds.ps μ-walk t) walk.Pre
+  abbrev walk-at : In 13 walk-kinds.ps
+  walk-at = and 13 walk-kinds.ps (is 13 walk-kinds.ps μ-walk t) walk.Pre
 
-  abbrev walk-below : In 12 walk-kinds.ps
-  walk-below = and 12 walk-kinds.ps (falls 12 walk-kinds.ps _<_ μ-walk t) walk.Pre
+  abbrev walk-below : In 13 walk-kinds.ps
+  walk-below = and 13 walk-kinds.ps (falls 13 walk-kinds.ps _<_ μ-walk t) walk.Pre
 
   abbrev grow-calls : grow-lts.Claims
   grow-calls = (size-reads.Asked, size-reads.Learnt, split-first-reads.Asked, split-first-reads.Learnt, put-group-reads.Asked, put-group-reads.Learnt, walk-below, walk.Post)
@@ -72,14 +72,14 @@ module _ (t : ℕ) where
   abbrev opened : grow-lts.Else1 grow-calls grow-at grow.Post → grow-lts.Start grow-calls grow-at grow.Post
   opened c = c .before .before .before .before
 
-  abbrev tested : grow-lts.After-split-first-arg8 grow-calls grow-at grow.Post → grow-lts.Else1 grow-calls grow-at grow.Post
-  tested c = c .before .before .before .before .before .before .before .before
+  abbrev tested : grow-lts.After-split-first-arg9 grow-calls grow-at grow.Post → grow-lts.Else1 grow-calls grow-at grow.Post
+  tested c = c .before .before .before .before .before .before .before .before .before
 
   abbrev divided : grow-lts.After-put-group-arg2 grow-calls grow-at grow.Post → grow-lts.After-split-first grow-calls grow-at grow.Post
   divided c = c .before .before .before .before .before
 
-  abbrev noted : grow-lts.After-walk-arg10 grow-calls grow-at grow.Post → grow-lts.After-put-group grow-calls grow-at grow.Post
-  noted c = c .before .before .before .before .before .before .before .before .before .before
+  abbrev noted : grow-lts.After-walk-arg11 grow-calls grow-at grow.Post → grow-lts.After-put-group grow-calls grow-at grow.Post
+  noted c = c .before .before .before .before .before .before .before .before .before .before .before
 
   abbrev gone-over : grow-lts.After-slice-known3 grow-calls grow-at grow.Post → grow-lts.After-walk grow-calls grow-at grow.Post
   gone-over c = c .before .before .before
@@ -94,18 +94,18 @@ module _ (t : ℕ) where
   grow-returns : grow-lts.Need-returns grow-calls grow-at grow.Post
   grow-returns c =
       let p = c .before .before .before .before .pre .1 .0 in
-      (one-taxon (multiplicityIn (c .before .before .before .before .args .planes .now)) (p .0 .parallel) (ready-wide (p .0)) (omega (arith, c .before .size .ensures)), p .2, p .3)
+      (one-taxon (multiplicityIn (c .before .before .before .before .args .planes .now)) (p .0 .loaded .parallel) (ready-wide (p .0)) (omega (arith, c .before .size .ensures)), p .2, p .3)
 
   grow-split-first-requires : grow-lts.Need-split-first-requires grow-calls grow-at grow.Post
   grow-split-first-requires c κs =
       let p = opened (tested c) .pre .1 .0 in (
         search-given (p .0) (more (tested c)),
-        p .0 .parallel,
-        p .0 .places,
+        p .0 .loaded .parallel,
+        p .0 .clear .long,
         omega (arith, p .1),
         p .3,
-        omega (arith, p .0 .columns, p .2 .ones),
-        omega (arith, p .0 .columns, p .2 .zeros),
+        omega (arith, p .0 .loaded .columns, p .2 .ones),
+        omega (arith, p .0 .loaded .columns, p .2 .zeros),
       )
 
   grow-put-group-requires : grow-lts.Need-put-group-requires grow-calls grow-at grow.Post
@@ -138,7 +138,7 @@ module _ (t : ℕ) where
             handed .2,
           ),
           (
-            ready-part ready (handed .0 .parallel) (handed .1 ∙ ready .clear) (pow-pos _),
+            (loaded-as (ready .loaded) (handed .0 .parallel), parts-clear ready two (handed .0) _ ps (handed .1 ∙ ready .clear .is)),
             parts-room ready two (handed .0) _ _ ps (put .ensures .0) (p .1 .1) (put .kept .1 .0) (put .kept .1 .1 .0),
           ),
         ),
@@ -152,17 +152,17 @@ module _ (t : ℕ) where
       let handed = parted c .split-first .ensures in
       let two = more test in
       let walk = gone-over c .walk .ensures in
-      (grown-group ready two (handed .0) _ (listed-parts ready two (handed .0)) (put .0) (handed .1 ∙ ready .clear) (put .1) (walk .0), walk .1, walk .2)
+      (grown-group ready two (handed .0) _ (listed-parts ready two (handed .0)) (put .0) (handed .1 ∙ ready .clear .is) (put .1) (walk .0), walk .1, walk .2)
 
   -- ---- walk
 
   walk-loop-holds : walk-lts.Need-loop-holds walk-calls walk-at walk.Post Inv μ-loop
   walk-loop-holds c =
       let p = c .before .before .pre .1 in
-      (search needs, p .1 .0 .parallel, refl, refl, refl, p .0 .3, going-start _ _ _ _ _, p .0 .4)
+      (search needs, p .1 .0 .0 .parallel, refl, refl, refl, p .0 .3, going-start _ _ _ _ _, p .0 .4, p .1 .0 .1)
 
-  abbrev inside : walk-lts.After-grow-arg10 walk-calls walk-at walk.Post Inv μ-loop → walk-lts.At-loop walk-calls walk-at walk.Post Inv μ-loop
-  inside c = c .before .before .before .before .before .before .before .before .before .before .before .before
+  abbrev inside : walk-lts.After-grow-arg11 walk-calls walk-at walk.Post Inv μ-loop → walk-lts.At-loop walk-calls walk-at walk.Post Inv μ-loop
+  inside c = c .before .before .before .before .before .before .before .before .before .before .before .before .before
 
   abbrev entered : walk-lts.At-loop walk-calls walk-at walk.Post Inv μ-loop → walk-lts.Start walk-calls walk-at walk.Post Inv μ-loop
   entered c = c .before .before .before
@@ -183,7 +183,7 @@ module _ (t : ℕ) where
         omega (arith, p .0, small),
         (
           (
-            ready-part (p .1 .1 .0) (l .inv .1) (l .inv .2) (rw here at (part .short (l .i) now)),
+            rw here at (part-ready (take (a .k) (a .list .now)) now (l .inv .8) (p .1 .1 .0 .0) (l .inv .1) (part .short (l .i) now) (l .inv .2)),
             omega (arith, fits, rest-length (a .k) (l .list), l .inv .3),
             l .inv .5,
             l .inv .7,
@@ -196,7 +196,7 @@ module _ (t : ℕ) where
       )
 
   abbrev gone-in : walk-lts.After-slice-known3 walk-calls walk-at walk.Post Inv μ-loop → walk-lts.In-loop walk-calls walk-at walk.Post Inv μ-loop
-  gone-in c = c .before .before .before .before .before .before .before .before .before .before .before .before .before .before .before
+  gone-in c = c .before .before .before .before .before .before .before .before .before .before .before .before .before .before .before .before
 
   walk-loop-again : walk-lts.Need-loop-again walk-calls walk-at walk.Post Inv μ-loop
   walk-loop-again c =
@@ -218,6 +218,7 @@ module _ (t : ℕ) where
         held,
         going-next _ _ (l .inv .6) now (rw here (g .columns)) (rw here (g .groups)) (rw here (g .many)),
         lent,
+        turns-on (take (a .k) (a .list .now)) now (l .inv .8) (rw here (g .columns)),
       )
 
   walk-returns : walk-lts.Need-returns walk-calls walk-at walk.Post Inv μ-loop

@@ -24,7 +24,7 @@ split c = c .before .before .before .before .before .before .before
 
 split-group-requires : tie.Need-split-group-requires
 split-group-requires c κs =
-    let p = begun (c .before .before .before .before .before .before .before .before) .pre in
+    let p = begun (c .before .before .before .before .before .before .before .before .before) .pre in
     (p .0, p .1, p .2, p .3, p .4)
 
 returns : tie.Need-returns
