@@ -1,5 +1,4 @@
-// The method of crate `search` as plain C, for comparison: the same flows, hops, order and stops. Its workspace has a number for every pair of taxon and
-// column, as the crate's had before document 02's C-13.
+// The method of crate `search` as plain C, for comparison: the same flows, hops, order and stops, and the same places in the workspace.
 #ifndef PLAIN_H
 #define PLAIN_H
 

@@ -14,7 +14,7 @@ use Rattle.taxa.proofs.Digits.{has-none}
 use Rattle.taxa.proofs.Counts.{count-in, count-insert}
 use Rattle.taxa.proofs.Members.{below, in-insert, in-remove, in∩, in∖, out, same-bool, disjoint-∩, ∩-disjoint, ⊆-refl, ⊆-≤, in-all}
 use Rattle.method.proofs.Carry.{up, down, room, most, carry}
-use Rattle.search.specs.Workspace.{IsColumn, outs, inns}
+use Rattle.search.specs.Workspace.{IsColumn, HasPlace, outs, inns}
 use Rattle.method.proofs.HopTree.{Joined}
 use Rattle.search.specs.Network.{nth, arc, caps, Pair, Ready}
 use Rattle.search.specs.Reaching.{fromOf, viaOf, turnOf, widthOf, carried, IsGate, Rooted, Grow, Leads, Offered, stays, joins, Passed, Crossed, Missed, Swept, Planted, Found}
@@ -95,8 +95,8 @@ gate-of g (o, e) = record { is-weight = g .is-weight; is-sends = rw (← o, ← 
 
 -- What reading a pair asks, where its column is known.
 pub pair-asks : {J F : List ℕ} {ws : List ℤ} {c i joined offset : ℕ} → Pair J F ws c i → IsColumn (nth J) c joined offset × (offset < 65536)
-    → (i < 64) × (offset < 65536) × (offset + count i joined < length ws)
-pair-asks {i = i} p (k, small) = (p .taxon, small, omega (arith, column-place i k, p .place))
+    → HasPlace ws joined offset i
+pair-asks {i = i} p (k, small) = record { taxon = p .taxon; near = small; place = omega (arith, column-place i k, p .place) }
 
 -- A pair has its place in another workspace of the same length.
 pub pair-long : {J F : List ℕ} {ws ws′ : List ℤ} {c i : ℕ} → Pair J F ws c i → length ws′ ≡ length ws → Pair J F ws′ c i

@@ -4,11 +4,13 @@ use mathlib.Core.Bool.{Bool, true, false, cond}
 use mathlib.Core.List.{List}
 use Prim.Native.Nat.{ℕ, _*_, _≤_, _<_}
 use lib.Dec.{ltb}
+use lib.IntN.{ℤ}
 use lib.ListN.{length}
 use Rattle.taxa.specs.Sum.{sum}
 use Rattle.taxa.specs.Sets.{has, _∩_, mass, count, multiplicityIn}
 use Rattle.method.specs.Flow.{cutCost}
 use Rattle.search.specs.Network.{nth, caps}
+use Rattle.search.specs.Search.{Given, DividedByFlow}
 
 -- For each column below m, the taxa that it joins in S.
 pub record Joins (O Z : List ℕ) (S m : ℕ) (J : List ℕ) : Type 0 where
@@ -47,3 +49,7 @@ module _ (W P J L : List ℕ) (n m S s : ℕ) where
     pub below : b < u
     pub least : (D : ℕ → Bool) (i : ℕ) → D s ≡ true → D i ≡ false → has S i ≡ true → i < u → k ≤ costs W P J L n m D
     pub first : (D : ℕ → Bool) (i : ℕ) → D s ≡ true → D i ≡ false → has S i ≡ true → i < b → k < costs W P J L n m D
+
+-- The lists hold the network of a group: cost k, side A and t divide it, whatever columns it is the network of.
+pub record NetworkDivided (W P J L : List ℕ) (n m S : ℕ) (ws : List ℤ) (k t A : ℕ) : Type 0 where
+  pub each : (O Z : List ℕ) → Given W P O Z S n m → Joins O Z S m J → Limits W P Z S m L → DividedByFlow W P O Z S n m ws k t A

@@ -19,6 +19,12 @@ pub record IsColumn (row : ℕ → ℕ) (c joined offset : ℕ) : Type 0 where
   pub is-joined : joined ≡ row c
   pub is-offset : offset ≡ sizes c row
 
+-- Taxon i has a place in the workspace, in a column that joins `joined` and whose places start at `offset`.
+pub record HasPlace (ws : List ℤ) (joined offset i : ℕ) : Type 0 where
+  pub taxon : i < 64
+  pub near : offset < 65536
+  pub place : offset + count i joined < length ws
+
 -- The net flow of a pair of column c and taxon i; of one that is not joined, none.
 unfoldable pub netFlow : List ℤ → (ℕ → ℕ) → ℕ → ℕ → ℤ
 netFlow ws row c i = cond (has (row c) i) (getD ws (slot row c i) (pos 0)) (pos 0)

@@ -17,7 +17,7 @@ ghost use Rattle.search.specs.Network.{nth, Offsets, Net, Spare, Lent};
 ghost use Rattle.search.specs.Flows.{Side};
 ghost use Rattle.search.specs.Search.{colsOf, Given, DividedByFlow};
 ghost use Rattle.search.specs.Trying as trying;
-ghost use Rattle.search.specs.Trying.{ties, Joins, Limits, Tried};
+ghost use Rattle.search.specs.Trying.{ties, Joins, Limits, Tried, NetworkDivided};
 
 // x, unless z is empty.
 fn unless_none(z: u64, x: u64) -> u64
@@ -55,10 +55,10 @@ fn network_of(
     }
 }
 
-// Where each column's places in the workspace start, and after them how many numbers all columns take: that many are returned.
-fn offsets_of(joined: &[u64; 256], m: usize, offsets: &mut [u16; 257]) -> usize
+// Where each column's places in the workspace start, and after them how many numbers all columns take.
+fn offsets_of(joined: &[u64; 256], m: usize, offsets: &mut [u16; 257])
     requires { ⌜ (m ≤ 256) × (length (now offsets) ≡ 257) ⌝ }
-    ensures { λ r. ⌜ Offsets (now (joined .entry)) (now (offsets .exit)) m × (r ≡ sizes m (nth (now (joined .entry)))) ⌝ }
+    ensures { λ _. ⌜ Offsets (now (joined .entry)) (now (offsets .exit)) m ⌝ }
 {
     let mut sum: u16 = 0;
     for c in 0..m {
@@ -66,7 +66,6 @@ fn offsets_of(joined: &[u64; 256], m: usize, offsets: &mut [u16; 257]) -> usize
         sum = sum + taxa::size(joined[c]) as u16;
     }
     offsets[m] = sum;
-    sum as usize
 }
 
 // The taxa that hops reach from the sources past no flow.
@@ -270,16 +269,137 @@ fn cheapest(
     best
 }
 
-// What a division costs, the side A of the group's lowest taxon, and t, the lowest taxon of the other side; and how many numbers of the workspace the
-// search used.
+// What a division costs, the side A of the group's lowest taxon, and t, the lowest taxon of the other side.
 pub struct Split {
     pub cost: u32,
     pub side: u64,
     pub other: usize,
-    pub arcs: usize,
 }
 
-// The division that document 01 takes. Cost 0 is found without a flow; else the flow of the taxon that is parted stands in the workspace, run last.
+// The division by the taxon that is parted for the least; the flow to it, run last, stands in the workspace.
+fn by_flows(
+    weights: &[u16],
+    planes: &[u64; 72],
+    joined: &[u64; 256],
+    limits: &[u32; 256],
+    offsets: &[u16; 257],
+    group: u64,
+    n: usize,
+    m: usize,
+    ws: &mut [i32],
+    used: &mut [u32; 256],
+    tree: &mut [u32; 256],
+) -> Split
+    requires { ⌜
+        Net (now weights) (now planes) (now joined) (now limits) (now offsets) n m
+        × (sizes m (nth (now joined)) ≤ length (now ws))
+        × (group < 2 ^ n)
+        × (1 < count n group)
+        × Spare (now used) (now tree) ⌝ }
+    ensures { λ r. ⌜
+        NetworkDivided (now (weights .entry)) (now (planes .entry)) (now (joined .entry)) (now (limits .entry)) n m group (now (ws .exit)) (r .cost) (r .other) (r .side)
+        × Kept (sizes m (nth (now (joined .entry)))) (now (ws .entry)) (now (ws .exit))
+        × Spare (now (used .exit)) (now (tree .exit)) ⌝ }
+{
+    let t = cheapest(
+        weights,
+        planes,
+        joined,
+        limits,
+        offsets,
+        group,
+        n,
+        m,
+        ws,
+        used,
+        tree,
+    ).other;
+    let s = taxa::single(taxa::lowest(group));
+    let cut = push::largest(
+        weights,
+        planes,
+        joined,
+        limits,
+        offsets,
+        n,
+        m,
+        ws,
+        used,
+        tree,
+        s,
+        t,
+        4294967295,
+    );
+    Split {
+        cost: cut.size,
+        side: cut.side,
+        other: t,
+    }
+}
+
+// The division of a network. Cost 0 is found without a flow.
+fn division(
+    weights: &[u16],
+    planes: &[u64; 72],
+    joined: &[u64; 256],
+    limits: &[u32; 256],
+    offsets: &[u16; 257],
+    group: u64,
+    n: usize,
+    m: usize,
+    ws: &mut [i32],
+    used: &mut [u32; 256],
+    tree: &mut [u32; 256],
+) -> Split
+    requires { ⌜
+        Net (now weights) (now planes) (now joined) (now limits) (now offsets) n m
+        × (sizes m (nth (now joined)) ≤ length (now ws))
+        × (group < 2 ^ n)
+        × (1 < count n group)
+        × Spare (now used) (now tree) ⌝ }
+    ensures { λ r. ⌜
+        NetworkDivided (now (weights .entry)) (now (planes .entry)) (now (joined .entry)) (now (limits .entry)) n m group (now (ws .exit)) (r .cost) (r .other) (r .side)
+        × Kept (sizes m (nth (now (joined .entry)))) (now (ws .entry)) (now (ws .exit))
+        × Spare (now (used .exit)) (now (tree .exit)) ⌝ }
+{
+    let s = taxa::single(taxa::lowest(group));
+    let met = connected(
+        weights,
+        planes,
+        joined,
+        limits,
+        offsets,
+        n,
+        m,
+        ws,
+        used,
+        tree,
+        s,
+    );
+    let off = taxa::difference(group, met);
+    if 0 < off {
+        return Split {
+            cost: 0,
+            side: met,
+            other: taxa::lowest(off) as usize,
+        };
+    }
+    by_flows(
+        weights,
+        planes,
+        joined,
+        limits,
+        offsets,
+        group,
+        n,
+        m,
+        ws,
+        used,
+        tree,
+    )
+}
+
+// The division that document 01 takes, with a flow of its cost in the workspace, whose places the offsets tell.
 pub fn divide(
     weights: &[u16],
     planes: &[u64; 72],
@@ -301,36 +421,13 @@ pub fn divide(
         × Lent (now joined) (now limits) (now offsets) (now used) (now tree) ⌝ }
     ensures { λ r. ⌜
         DividedByFlow (now (weights .entry)) (now (planes .entry)) (now (ones .entry)) (now (zeros .entry)) group n m (now (ws .exit)) (r .cost) (r .other) (r .side)
-        × (r .arcs ≡ arcCount m (colsOf (now (weights .entry)) (now (ones .entry)) (now (zeros .entry))) group)
+        × (nth (now (offsets .exit)) m ≡ arcCount m (colsOf (now (weights .entry)) (now (ones .entry)) (now (zeros .entry))) group)
         × Kept (arcCount m (colsOf (now (weights .entry)) (now (ones .entry)) (now (zeros .entry))) group) (now (ws .entry)) (now (ws .exit))
         × Lent (now (joined .exit)) (now (limits .exit)) (now (offsets .exit)) (now (used .exit)) (now (tree .exit)) ⌝ }
 {
     network_of(weights, planes, ones, zeros, group, m, joined, limits);
-    let arcs = offsets_of(joined, m, offsets);
-    let s = taxa::single(taxa::lowest(group));
-    let met = connected(
-        weights,
-        planes,
-        joined,
-        limits,
-        offsets,
-        n,
-        m,
-        ws,
-        used,
-        tree,
-        s,
-    );
-    let off = taxa::difference(group, met);
-    if 0 < off {
-        return Split {
-            cost: 0,
-            side: met,
-            other: taxa::lowest(off) as usize,
-            arcs,
-        };
-    }
-    let t = cheapest(
+    offsets_of(joined, m, offsets);
+    division(
         weights,
         planes,
         joined,
@@ -342,26 +439,5 @@ pub fn divide(
         ws,
         used,
         tree,
-    ).other;
-    let cut = push::largest(
-        weights,
-        planes,
-        joined,
-        limits,
-        offsets,
-        n,
-        m,
-        ws,
-        used,
-        tree,
-        s,
-        t,
-        4294967295,
-    );
-    Split {
-        cost: cut.size,
-        side: cut.side,
-        other: t,
-        arcs,
-    }
+    )
 }

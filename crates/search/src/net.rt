@@ -6,7 +6,7 @@ ghost use lib.IntN.{pos, _+ℤ_, _-ℤ_};
 ghost use lib.ListN.{length, getD, set};
 ghost use Rattle.taxa.specs.Sets.{has, count, sizes};
 ghost use Rattle.search.specs.Signed.{outOf, innOf, Diff};
-ghost use Rattle.search.specs.Workspace.{IsColumn, outs, inns, cleared, sent, CanSend, Kept};
+ghost use Rattle.search.specs.Workspace.{IsColumn, HasPlace, outs, inns, cleared, sent, CanSend, Kept};
 ghost use Rattle.search.specs.Network.{nth, CanHop};
 ghost use Rattle.method.proofs.Carry.{Hopped};
 
@@ -121,7 +121,7 @@ pub struct NetFlow {
 }
 
 pub fn flow(ws: &[i32], column: Column, i: usize) -> NetFlow
-    requires { ⌜ (i < 64) × (column .offset < 65536) × (column .offset + count i (column .joined) < length (now ws)) ⌝ }
+    requires { ⌜ HasPlace (now ws) (column .joined) (column .offset) i ⌝ }
     ensures { λ r. ⌜
         ((row : ℕ → ℕ) (c : ℕ) → IsColumn row c (column .joined) (column .offset) → has (row c) i ≡ true
         → (r .out ≡ outs (now (ws .entry)) row c i) × (r .inn ≡ inns (now (ws .entry)) row c i)) ⌝ }

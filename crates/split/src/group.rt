@@ -53,7 +53,7 @@ pub fn divide(
         used,
         tree,
     );
-    search::net::clear(workspace, found.arcs);
+    search::net::clear_places(workspace, offsets, m);
     found
 }
 

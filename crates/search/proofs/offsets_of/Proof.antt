@@ -44,7 +44,7 @@ returns c =
     let v = c .before .loop in
     let e : v .c ≡ c .before .before .args .m = omega arith in
     let t = rw e at (table-next (v .inv .2) (omega (arith, c .before .before .pre .0)) (v .inv .1)) in
-    (record { long = t .long; is = λ k b. t .is k (omega arith) }, rw e at (v .inv .1))
+    record { long = t .long; is = λ k b. t .is k (omega arith) }
 
 pub offsets-of-spec : {M : Type 1} → statement M
 offsets-of-spec =
@@ -60,5 +60,4 @@ offsets-of-spec =
     (λ c. search needs) (λ c. search needs)
     loop-again
     (λ c. search needs) (λ c. search needs)
-    (λ c. let l = c .before in omega (arith, l .loop .inv .0, l .loop .inv .1, sizes-few (nth (l .before .args .joined .now)) (l .loop .c), l .before .pre .0))
     returns)

@@ -36,7 +36,7 @@ flow-spec =
     (tie.spec
     (λ c κs. search needs)
     (λ c. search needs)
-    (λ c. omega (arith, c .slot .ensures, c .before .pre .2))
+    (λ c. omega (arith, c .slot .ensures, c .before .pre .place))
     (λ c κs. search needs)
     (λ c κs. search needs)
     returns)

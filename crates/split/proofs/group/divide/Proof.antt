@@ -4,20 +4,20 @@ use Rattle.split.proofs.Dividing.{found-split, used-cleared}
 use Rattle.split.proofs.group.divide.Statement.{statement}
 use Rattle.split.proofs.group.divide.Tie as tie
 
-divide-requires : tie.Need-divide-requires
-divide-requires c κs = search needs
-
-clear-requires : tie.Need-clear-requires
-clear-requires c κs = search needs
-
-same-length : tie.Need-same-length
-same-length c = search needs
+abbrev begun : tie.After-divide → tie.Start
+begun c = c .before .before .before .before .before .before .before .before .before .before
 
 returns : tie.Need-returns
 returns c =
-    let found = c .before .before .before .before .divide .ensures in
-    let pre = c .before .before .before .before .before .before .before .before .before .before .before .before .before .before .pre in
-    (found-split (pre .0) (found .0), used-cleared (found .1) (found .2) (c .before .clear .ensures), found .3)
+    let l = c .before .before .before .before .before in
+    let (found, arcs, kept, lent) = l .divide .ensures in
+    (found-split (begun l .pre .0) found, used-cleared arcs kept (c .before .clear-places .ensures), lent)
 
 pub divide-spec : {M : Type 1} → statement M
-divide-spec = tie.close (tie.spec divide-requires clear-requires same-length returns)
+divide-spec =
+    tie.close
+    (tie.spec
+    (λ c κs. search needs)
+    (λ c κs. search needs)
+    (λ c. search needs)
+    returns)
