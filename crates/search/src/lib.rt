@@ -337,69 +337,8 @@ fn by_flows(
     }
 }
 
-// The division of a network. Cost 0 is found without a flow.
-fn division(
-    weights: &[u16],
-    planes: &[u64; 72],
-    joined: &[u64; 256],
-    limits: &[u32; 256],
-    offsets: &[u16; 257],
-    group: u64,
-    n: usize,
-    m: usize,
-    ws: &mut [i32],
-    used: &mut [u32; 256],
-    tree: &mut [u32; 256],
-) -> Split
-    requires { ⌜
-        Net (now weights) (now planes) (now joined) (now limits) (now offsets) n m
-        × (sizes m (nth (now joined)) ≤ length (now ws))
-        × (group < 2 ^ n)
-        × (1 < count n group)
-        × Spare (now used) (now tree) ⌝ }
-    ensures { λ r. ⌜
-        NetworkDivided (now (weights .entry)) (now (planes .entry)) (now (joined .entry)) (now (limits .entry)) n m group (now (ws .exit)) (r .cost) (r .other) (r .side)
-        × Kept (sizes m (nth (now (joined .entry)))) (now (ws .entry)) (now (ws .exit))
-        × Spare (now (used .exit)) (now (tree .exit)) ⌝ }
-{
-    let s = taxa::single(taxa::lowest(group));
-    let met = connected(
-        weights,
-        planes,
-        joined,
-        limits,
-        offsets,
-        n,
-        m,
-        ws,
-        used,
-        tree,
-        s,
-    );
-    let off = taxa::difference(group, met);
-    if 0 < off {
-        return Split {
-            cost: 0,
-            side: met,
-            other: taxa::lowest(off) as usize,
-        };
-    }
-    by_flows(
-        weights,
-        planes,
-        joined,
-        limits,
-        offsets,
-        group,
-        n,
-        m,
-        ws,
-        used,
-        tree,
-    )
-}
-
-// The division that document 01 takes, with a flow of its cost in the workspace, whose places the offsets tell.
+// The division that document 01 takes. Cost 0 is found without a flow; else the flow of the taxon that is parted stands in the workspace, whose places
+// the offsets tell.
 pub fn divide(
     weights: &[u16],
     planes: &[u64; 72],
@@ -427,7 +366,29 @@ pub fn divide(
 {
     network_of(weights, planes, ones, zeros, group, m, joined, limits);
     offsets_of(joined, m, offsets);
-    division(
+    let s = taxa::single(taxa::lowest(group));
+    let met = connected(
+        weights,
+        planes,
+        joined,
+        limits,
+        offsets,
+        n,
+        m,
+        ws,
+        used,
+        tree,
+        s,
+    );
+    let off = taxa::difference(group, met);
+    if 0 < off {
+        return Split {
+            cost: 0,
+            side: met,
+            other: taxa::lowest(off) as usize,
+        };
+    }
+    by_flows(
         weights,
         planes,
         joined,
