@@ -39,6 +39,10 @@ cond-le : (b : Bool) {w k : ℕ} → w ≤ k → cond b w 0 ≤ k
 cond-le true h = h
 cond-le false h = omega arith
 
+-- To part a taxon alone, a column costs no more than its arc there carries.
+pub cut-alone : (n : ℕ) (cap : ℕ → ℕ) (thr : ℕ) {t : ℕ} → t < n → cut n cap thr (∁ (only t)) ≤ cap t
+cut-alone n cap thr {t} b = omega (arith, sum-≡ n {g = outside (∁ (only t)) cap} {h = inside (only t) cap} (λ i l. twice (only t i) (cap i)), inside-alone (only-alone t) b cap)
+
 -- "65,535 x 127", the most that an arc carries.
 pub arc-small : (P : List ℕ) {w : ℕ} → w < 65536 → (i : ℕ) → w * multiplicityIn P i ≤ arcMost
 arc-small P l i = omega (arith, mul-le-mul-right (multiplicityIn P i) l, in-small P i)
@@ -54,7 +58,7 @@ module _ {W P J L F : List ℕ} {n m : ℕ} {ws : List ℤ} {U : List ℕ} where
       omega (
         arith,
         weak-from n m (caps W P J) (nth L) (outs ws (nth J)) (inns ws (nth J)) (f .flow) others in-others (ap not (only-alone t .held)),
-        sum-bound m arcMost {g = λ c. cut n (caps W P J c) (nth L c) others} (λ c b. omega (arith, taken c, caps-small (f .ready .net) c b t)),
+        sum-bound m arcMost {g = λ c. cut n (caps W P J c) (nth L c) others} (λ c b. omega (arith, cut-alone n (caps W P J c) (nth L c) (f .sink), caps-small (f .ready .net) c b t)),
         mul-le-mul-right arcMost (f .ready .net .columns),
       )
     where
@@ -63,9 +67,6 @@ module _ {W P J L F : List ℕ} {n m : ℕ} {ws : List ℤ} {U : List ℕ} where
 
       in-others : (i : ℕ) → has X i ≡ true → others i ≡ true
       in-others i h = ap not (alone-off (only-alone t) i (λ e. true≢false (sym h ∙ ap (has X) e ∙ f .apart)))
-
-      taken : (c : ℕ) → sum n (outside others (caps W P J c)) ≡ caps W P J c t
-      taken c = sum-≡ n (λ i b. twice (only t i) (caps W P J c i)) ∙ inside-alone (only-alone t) (f .sink) (caps W P J c)
 
   sum-small : Ready W P J L F n m ws U → (c : ℕ) → c < m → sum n (outs ws (nth J) c) ≤ 532668480
   sum-small r c b =

@@ -4,4 +4,5 @@ pub mod Reaching
 pub mod Flows
 pub mod Same
 pub mod Tables
+pub mod Trying
 pub mod Group

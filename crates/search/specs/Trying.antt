@@ -2,12 +2,13 @@
 use mathlib.Core.Path.{_≡_}
 use mathlib.Core.Bool.{Bool, true, false, cond}
 use mathlib.Core.List.{List}
+use mathlib.Core.Logic.{_≢_}
 use Prim.Native.Nat.{ℕ, _*_, _≤_, _<_}
 use lib.Dec.{ltb}
 use lib.IntN.{ℤ}
 use lib.ListN.{length}
 use Rattle.taxa.specs.Sum.{sum}
-use Rattle.taxa.specs.Sets.{has, _∩_, mass, count, multiplicityIn}
+use Rattle.taxa.specs.Sets.{has, all, _∩_, mass, count, low, multiplicityIn}
 use Rattle.method.specs.Flow.{cutCost}
 use Rattle.search.specs.Network.{nth, caps}
 use Rattle.search.specs.Search.{Given, DividedByFlow}
@@ -30,6 +31,22 @@ tie w j l u = cond (has j u) (cond (ltb 0 (j ∩ l)) w 0) 0
 abbrev pub ties : List ℕ → List ℕ → ℕ → ℕ → ℕ → ℕ
 ties W J m l u = sum m (λ c. tie (nth W c) (nth J c) l u)
 
+-- What the columns that join u weigh.
+abbrev pub weighs : List ℕ → List ℕ → ℕ → ℕ → ℕ
+weighs W J m u = sum m (λ c. cond (has (nth J c) u) (nth W c) 0)
+
+-- T holds, for each taxon of S but its lowest, what ties it to the lower ones of S.
+pub record Ties (W J : List ℕ) (m S : ℕ) (T : List ℕ) : Type 0 where
+  pub long : length T ≡ 64
+  pub is : (u : ℕ) → has S u ≡ true → u ≢ low 64 S → nth T u ≡ ties W J m (S ∩ all u) u
+
+-- What joins some taxon of S but its lowest, times what that stands for, is less than k: to part it alone costs no more than that.
+pub record Loose (W P J : List ℕ) (m S k : ℕ) : Type 0 where
+  pub taxon : ℕ
+  pub inside : has S taxon ≡ true
+  pub not-lowest : taxon ≢ low 64 S
+  pub less : weighs W J m taxon * multiplicityIn P taxon < k
+
 -- What a set of taxa cuts of the network in the lists.
 abbrev pub costs : List ℕ → List ℕ → List ℕ → List ℕ → ℕ → ℕ → (ℕ → Bool) → ℕ
 costs W P J L n m = cutCost n m (caps W P J) (nth L)
@@ -43,12 +60,27 @@ module _ (W P J L : List ℕ) (n m S s : ℕ) where
     pub off-b : has set b ≡ false
     pub costs-k : k ≡ costs W P J L n m (has set)
 
-  -- The taxa below u have been tried: k is the least that parts one of them from s, and b the first of those that it parts.
-  pub record Tried (u k b : ℕ) : Type 0 where
+  -- No set with s and without a taxon of S below u costs less than k.
+  pub record AtLeast (u k : ℕ) : Type 0 where
+    pub least : (D : ℕ → Bool) (i : ℕ) → D s ≡ true → D i ≡ false → has S i ≡ true → i < u → k ≤ costs W P J L n m D
+
+  -- k parts taxon b, which is below u, and no taxon below b.
+  pub record Met (u k b : ℕ) : Type 0 where
     pub best : Parts k b
     pub below : b < u
-    pub least : (D : ℕ → Bool) (i : ℕ) → D s ≡ true → D i ≡ false → has S i ≡ true → i < u → k ≤ costs W P J L n m D
     pub first : (D : ℕ → Bool) (i : ℕ) → D s ≡ true → D i ≡ false → has S i ≡ true → i < b → k < costs W P J L n m D
+
+  -- The taxa below u have been tried: k is the least that parts one of them from s, and b the first of those that it parts; or none costs less than the bound,
+  -- and b is 64.
+  pub record Trying (bound u k b : ℕ) : Type 0 where
+    pub tried : AtLeast u k
+    pub none : b ≡ 64 → k ≡ bound
+    pub met : b ≢ 64 → Met u k b
+
+  -- The same where one was met.
+  pub record Tried (u k b : ℕ) : Type 0 where
+    pub tried : AtLeast u k
+    pub met : Met u k b
 
 -- The lists hold the network of a group: cost k, side A and t divide it, whatever columns it is the network of.
 pub record NetworkDivided (W P J L : List ℕ) (n m S : ℕ) (ws : List ℤ) (k t A : ℕ) : Type 0 where

@@ -6,18 +6,18 @@ mod push;
 mod reach;
 
 ghost use mathlib.Core.Path.{_≡_};
-ghost use mathlib.Core.Bool.{cond};
-ghost use Prim.Native.Nat.{_+_, _*_, _≤_, _<_, _^_};
+ghost use mathlib.Core.Bool.{true, cond};
+ghost use Prim.Native.Nat.{ℕ, _+_, _≤_, _<_, _^_};
 ghost use lib.Dec.{ltb};
 ghost use lib.ListN.{length};
-ghost use Rattle.taxa.specs.Sets.{count, sizes, low};
+ghost use Rattle.taxa.specs.Sets.{has, all, _∩_, count, sizes, low, Tabled};
 ghost use Rattle.method.specs.Flow.{arcCount};
 ghost use Rattle.search.specs.Workspace.{cleared, Kept};
 ghost use Rattle.search.specs.Network.{nth, Offsets, Net, Spare, Lent};
 ghost use Rattle.search.specs.Flows.{Side};
 ghost use Rattle.search.specs.Search.{colsOf, Given, DividedByFlow};
 ghost use Rattle.search.specs.Trying as trying;
-ghost use Rattle.search.specs.Trying.{ties, Joins, Limits, Tried, NetworkDivided};
+ghost use Rattle.search.specs.Trying.{ties, weighs, Ties, Loose, Joins, Limits, Trying, Tried, NetworkDivided};
 
 // x, unless z is empty.
 fn unless_none(z: u64, x: u64) -> u64
@@ -108,37 +108,91 @@ fn connected(
     )
 }
 
-// The least cost so far, and the taxon that it was met at first.
+// What ties a taxon: the weight of the columns that join it with a lower one, and of all that join it.
+struct Bonds {
+    lower: u32,
+    all: u32,
+}
+
+// The weight, unless x is empty.
+fn weight_if(x: u64, weight: u16) -> u32
+    ensures { λ r. ⌜ (r ≡ cond (ltb 0 x) weight 0) × (r < 65536) ⌝ }
+{
+    if 0 < x { net::wide(weight) } else { 0 }
+}
+
+// What a column of the weight that joins `joined` adds to what ties taxon u.
+fn tie(weight: u16, joined: u64, lower: u64, u: usize) -> Bonds
+    requires { ⌜ u < 64 ⌝ }
+    ensures { λ r. ⌜
+        (r .lower ≡ trying.tie weight joined lower u)
+        × (r .all ≡ cond (has joined u) weight 0)
+        × (r .lower < 65536)
+        × (r .all < 65536) ⌝ }
+{
+    if !taxa::contains(joined, u as u32) {
+        return Bonds { lower: 0, all: 0 };
+    }
+    let lower = weight_if(taxa::common(joined, lower), weight);
+    let all = net::wide(weight);
+    Bonds { lower, all }
+}
+
+// What ties taxon u, with those of `lower` below it.
+fn tied(weights: &[u16], joined: &[u64; 256], m: usize, lower: u64, u: usize) -> Bonds
+    requires { ⌜ (m ≤ 256) × (m ≤ length (now weights)) × (u < 64) ⌝ }
+    ensures { λ r. ⌜
+        (r .lower ≡ ties (now (weights .entry)) (now (joined .entry)) m lower u)
+        × (r .all ≡ weighs (now (weights .entry)) (now (joined .entry)) m u)
+        × (r .all ≤ 16776960) ⌝ }
+{
+    let mut sum = Bonds { lower: 0, all: 0 };
+    for c in 0..m {
+        let more = tie(weights[c], joined[c], lower, u);
+        sum = Bonds {
+            lower: sum.lower + more.lower,
+            all: sum.all + more.all,
+        };
+    }
+    sum
+}
+
+// What ties each taxon of the group but its lowest to the lower ones; and a bound: to part one of them alone costs less.
+fn ties_of(
+    weights: &[u16],
+    planes: &[u64; 72],
+    joined: &[u64; 256],
+    group: u64,
+    m: usize,
+    ties: &mut [u32; 64],
+) -> u32
+    requires { ⌜
+        (m ≤ 256)
+        × (m ≤ length (now weights))
+        × Tabled (now planes)
+        × (1 < count 64 group)
+        × (length (now ties) ≡ 64) ⌝ }
+    ensures { λ r. ⌜
+        Ties (now (weights .entry)) (now (joined .entry)) m group (now (ties .exit))
+        × Loose (now (weights .entry)) (now (planes .entry)) (now (joined .entry)) m group r ⌝ }
+{
+    let mut bound: u32 = 4294967295;
+    let mut left = taxa::rest(group);
+    while 0 < left {
+        let i = taxa::lowest(left);
+        let u = i as usize;
+        let found = tied(weights, joined, m, taxa::common(group, taxa::all(i)), u);
+        ties[u] = found.lower;
+        bound = taxa::least(bound, found.all * taxa::multiplicity(planes, i) + 1);
+        left = taxa::rest(left);
+    }
+    bound
+}
+
+// The least cost so far, and the taxon that it was met at first; 64, while it is a bound that was not met.
 struct Best {
     cost: u32,
     other: usize,
-}
-
-// The weight of a column that joins `joined`, if it joins taxon u with one of `lower`.
-fn tie(weight: u16, joined: u64, lower: u64, u: usize) -> u32
-    requires { ⌜ u < 64 ⌝ }
-    ensures { λ r. ⌜ (r ≡ trying.tie weight joined lower u) × (r < 65536) ⌝ }
-{
-    if !taxa::contains(joined, u as u32) {
-        return 0;
-    }
-    if 0 < taxa::common(joined, lower) {
-        net::wide(weight)
-    } else {
-        0
-    }
-}
-
-// What the columns that join u with a taxon of `lower` weigh.
-fn tied(weights: &[u16], joined: &[u64; 256], m: usize, lower: u64, u: usize) -> u32
-    requires { ⌜ (m ≤ 256) × (m ≤ length (now weights)) × (u < 64) ⌝ }
-    ensures { λ r. ⌜ r ≡ ties (now (weights .entry)) (now (joined .entry)) m lower u ⌝ }
-{
-    let mut sum: u32 = 0;
-    for c in 0..m {
-        sum = sum + tie(weights[c], joined[c], lower, u);
-    }
-    sum
 }
 
 // Taxon u is tried. Only sets with all taxa of the group below u, and without u, can cost less than the best: what ties u to those taxa, and a flow
@@ -157,6 +211,7 @@ fn attempt(
     tree: &mut [u32; 256],
     best: Best,
     u: usize,
+    tie: u32,
 ) -> Best
     requires { ⌜
         Net (now weights) (now planes) (now joined) (now limits) (now offsets) n m
@@ -164,18 +219,18 @@ fn attempt(
         × (group < 2 ^ n)
         × (low n group < u)
         × (u < n)
-        × Tried (now weights) (now planes) (now joined) (now limits) n m group (low n group) u (best .cost) (best .other)
-        × Spare (now used) (now tree) ⌝ }
+        × Spare (now used) (now tree)
+        × (has group u ≡ true → tie ≡ ties (now weights) (now joined) m (group ∩ all u) u) ⌝ }
     ensures { λ r. ⌜
-        Tried (now (weights .entry)) (now (planes .entry)) (now (joined .entry)) (now (limits .entry)) n m group (low n group) (u + 1) (r .cost) (r .other)
+        ((bound : ℕ) → Trying (now (weights .entry)) (now (planes .entry)) (now (joined .entry)) (now (limits .entry)) n m group (low n group) bound u (best .cost) (best .other)
+        → Trying (now (weights .entry)) (now (planes .entry)) (now (joined .entry)) (now (limits .entry)) n m group (low n group) bound (u + 1) (r .cost) (r .other))
         × Kept (sizes m (nth (now (joined .entry)))) (now (ws .entry)) (now (ws .exit))
         × Spare (now (used .exit)) (now (tree .exit)) ⌝ }
 {
     if !taxa::contains(group, u as u32) {
         return best;
     }
-    let lower = taxa::common(group, taxa::all(u as u32));
-    if best.cost <= tied(weights, joined, m, lower, u) {
+    if best.cost <= tie {
         return best;
     }
     let cut = push::largest(
@@ -189,7 +244,7 @@ fn attempt(
         ws,
         used,
         tree,
-        lower,
+        taxa::common(group, taxa::all(u as u32)),
         u,
         best.cost,
     );
@@ -228,28 +283,14 @@ fn cheapest(
         × Kept (sizes m (nth (now (joined .entry)))) (now (ws .entry)) (now (ws .exit))
         × Spare (now (used .exit)) (now (tree .exit)) ⌝ }
 {
-    let source = taxa::single(taxa::lowest(group));
-    let t = taxa::lowest(taxa::rest(group)) as usize;
-    let cut = push::largest(
-        weights,
-        planes,
-        joined,
-        limits,
-        offsets,
-        n,
-        m,
-        ws,
-        used,
-        tree,
-        source,
-        t,
-        4294967295,
-    );
+    let mut ties = [0u32; 64];
+    let bound = ties_of(weights, planes, joined, group, m, &mut ties);
     let mut best = Best {
-        cost: cut.size,
-        other: t,
+        cost: bound,
+        other: 64,
     };
-    for u in t + 1..n {
+    let s = taxa::lowest(group) as usize;
+    for u in s + 1..n {
         best = attempt(
             weights,
             planes,
@@ -264,6 +305,7 @@ fn cheapest(
             tree,
             best,
             u,
+            ties[u],
         );
     }
     best

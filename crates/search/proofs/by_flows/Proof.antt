@@ -8,7 +8,8 @@ use Rattle.taxa.specs.Sets.{low}
 use Rattle.taxa.proofs.Counts.{count-pos}
 use Rattle.taxa.proofs.Members.{below}
 use Rattle.search.proofs.Workspace.{kept-then}
-use Rattle.search.proofs.Group.{pow-off, source-is, parted-off, stands, divided}
+use Rattle.search.proofs.Group.{source-is, divided}
+use Rattle.search.proofs.Trying.{pow-off, parted-off, stands}
 use Rattle.search.proofs.by_flows.Statement.{statement}
 use Rattle.search.proofs.by_flows.Tie as tie
 
@@ -38,7 +39,7 @@ largest-requires c κs =
     let p = start .pre in
     let r = least l .cheapest .ensures in
     let s = low (start .args .n) (start .args .group) in
-    (p .0, omega (arith, p .1, r .1 .long), fits l, r .0 .below, rw (is-low l) (pow-off {s = s} (λ e. parted-off (r .0) e)), r .2)
+    (p .0, omega (arith, p .1, r .1 .long), fits l, r .0 .met .below, rw (is-low l) (pow-off {s = s} (λ e. parted-off (r .0) e)), r .2)
 
 returns : tie.Need-returns
 returns c =

@@ -1,101 +1,95 @@
 -- `search::cheapest` meets its contract. The invariant: the taxa below u have been tried.
 use borrow.Author.Needs.{needs}
 use native.Mathlib.Omega.{arith}
-use mathlib.Core.Path.{_≡_}
-use Prim.Native.Nat.{_<_, _≤_, _-_, _^_}
-use lib.Pow.{pow-lt}
-use Rattle.taxa.specs.Sets.{sizes, low}
-use Rattle.taxa.proofs.Counts.{count-pos}
-use Rattle.taxa.proofs.Members.{in-pos}
+use mathlib.Core.Path.{_≡_, refl, sym, _∙_}
+use Prim.Native.Nat.{ℕ, _<_, _≤_, _-_}
+use Rattle.taxa.specs.Sets.{count, sizes, low}
+use Rattle.taxa.proofs.Counts.{count-pos, count-width}
+use Rattle.taxa.proofs.Members.{below, low-in, low-≤, low-width}
 use Rattle.search.specs.Workspace.{Kept}
 use Rattle.search.specs.Network.{nth, Spare}
-use Rattle.search.specs.Trying.{Tried}
+use Rattle.search.specs.Trying.{Trying}
 use Rattle.search.proofs.Workspace.{kept-none, kept-then}
-use Rattle.search.proofs.Group.{pow-off, stands, tried-one, source-is, some-rest, second, Second}
+use Rattle.search.proofs.Trying.{trying-start, trying-end}
 use Rattle.search.proofs.cheapest.Statement.{statement}
 use Rattle.search.proofs.cheapest.Tie as tie
 
 abbrev Inv-loop : tie.InvT-loop
-Inv-loop weights planes joined limits offsets group n m ws₀ used₀ tree₀ source t best₀ u₀ ws used tree best u =
-    (low n group < u) × (u ≤ n) × Tried weights planes joined limits n m group (low n group) u (best .cost) (best .other) × Kept (sizes m (nth joined)) ws₀ ws × Spare used tree
+Inv-loop weights planes joined limits offsets group n m ws₀ used₀ tree₀ ties bound best₀ s u₀ ws used tree best u =
+    (low n group < u)
+    × (u ≤ n)
+    × Trying weights planes joined limits n m group (low n group) bound u (best .cost) (best .other)
+    × Kept (sizes m (nth joined)) ws₀ ws
+    × Spare used tree
 
 abbrev μ-loop : tie.MeasureT-loop
-μ-loop weights planes joined limits offsets group n m ws₀ used₀ tree₀ source t best₀ u₀ ws used tree best u = n - u
+μ-loop weights planes joined limits offsets group n m ws₀ used₀ tree₀ ties bound best₀ s u₀ ws used tree best u = n - u
 
-lowest-requires : tie.Need-lowest-requires Inv-loop μ-loop
-lowest-requires c κs = count-pos (c .before .args .n) (omega (arith, c .before .pre .3))
+-- The way back from the ties to the start, and from the loop to them.
+abbrev begun : tie.After-ties-of Inv-loop μ-loop → tie.Start Inv-loop μ-loop
+begun c = c .before .before .before
 
-rest-requires : tie.Need-rest-requires Inv-loop μ-loop
-rest-requires c κs = in-pos (c .before .lowest .ensures .2)
+abbrev bound : tie.At-loop Inv-loop μ-loop → tie.After-ties-of Inv-loop μ-loop
+bound c = c .before .before
 
-lowest-requires-2 : tie.Need-lowest-requires-2 Inv-loop μ-loop
-lowest-requires-2 c κs = let start = c .before .before .before .before in let p = start .pre in some-rest (start .args .n) (p .0 .taxa) (p .2) (p .3) (c .rest .ensures .0)
+ties-of-requires : tie.Need-ties-of-requires Inv-loop μ-loop
+ties-of-requires c κs =
+    let start = c .before .before in
+    let p = start .pre in
+    (p .0 .columns, p .0 .weights, p .0 .tabled, omega (arith, p .3, count-width (p .0 .taxa) (p .2)), refl)
 
-abbrev begun : tie.After-lowest2 Inv-loop μ-loop → tie.Start Inv-loop μ-loop
-begun c = c .before .before .before .before .before
+some : (c : tie.Start Inv-loop μ-loop) → 0 < c .args .group
+some c = count-pos (c .args .n) (omega (arith, c .pre .3))
 
-next : (c : tie.After-lowest2 Inv-loop μ-loop) → let a = begun c .args in Second (a .group) (a .n) (low (a .n) (a .group)) (c .lowest2 .result)
-next c = let p = begun c .pre in second (begun c .args .n) (p .0 .taxa) (p .2) (p .3) (c .before .rest .ensures .0) (c .lowest2 .ensures .0) (c .lowest2 .ensures .2)
+-- The lowest of 64 taxa is that of n.
+is-low : (c : tie.After-lowest Inv-loop μ-loop) → let a = begun (c .before) .args in c .lowest .result ≡ low (a .n) (a .group)
+is-low c = let start = begun (c .before) in c .lowest .ensures .0 ∙ sym (low-width (start .pre .0 .taxa) (some start) (start .pre .2))
 
--- The way back from the first flow, and from the loop.
-abbrev found : tie.After-largest Inv-loop μ-loop → tie.After-lowest2 Inv-loop μ-loop
-found c = c .before .before .before .before
-
-abbrev flowed : tie.At-loop Inv-loop μ-loop → tie.After-largest Inv-loop μ-loop
-flowed c = c .before .before
-
--- The source is the lowest taxon alone.
-is-source : (c : tie.After-lowest2 Inv-loop μ-loop) → c .before .before .single .result ≡ 2 ^ low (begun c .args .n) (begun c .args .group)
-is-source c =
-    let p = begun c .pre in
-    let single = c .before .before in
-    source-is (begun c .args .n) (p .0 .taxa) (p .2) (p .3) (single .before .lowest .ensures .0) (single .single .ensures)
-
-source-low : (c : tie.After-lowest2 Inv-loop μ-loop) → low (begun c .args .n) (begun c .args .group) < begun c .args .n
-source-low c = let w = next c in omega (arith, w .order, w .small)
-
-largest-requires : tie.Need-largest-requires Inv-loop μ-loop
-largest-requires c κs =
-    let l = c .before .before .before in
-    let p = begun l .pre in
-    let w = next l in
-    (p .0, p .1, rw (is-source l) (pow-lt (source-low l)), w .small, rw (is-source l) (pow-off {s = low (begun l .args .n) (begun l .args .group)} (λ e. omega (arith, w .order))), p .4)
-
-add-u : tie.Need-add-u Inv-loop μ-loop
-add-u c = omega (arith, found (c .before) .lowest2 .ensures .1)
+low-small : (c : tie.After-lowest Inv-loop μ-loop) → let a = begun (c .before) .args in low (a .n) (a .group) < a .n
+low-small c = let start = begun (c .before) in below (start .args .n) (start .pre .2) (low-in (start .args .n) (some start) (start .pre .2))
 
 loop-holds : tie.Need-loop-holds Inv-loop μ-loop
 loop-holds c =
-    let l = found (c .before) in
-    let a = begun l .args in
-    let w = next l in
-    let f = rw (is-source l) at (c .before .largest .ensures) in
-    (omega (arith, w .order), omega (arith, w .small), tried-one (source-low l) (w .in-t) (w .others) (stands (f .0) (omega (arith, f .0 .small))), kept-none (sizes (a .m) (nth (a .joined .now))) (c .before .largest .last .1 .1 .1 .1 .1 .1 .1 .0), f .2)
+    let start = begun (c .before) in
+    let a = start .args in
+    let p = start .pre in
+    rw (is-low c) (
+      omega arith,
+      omega (arith, low-small c),
+      trying-start (c .before .ties-of .result) (λ i h. low-≤ (a .n) (p .2) (record { is = h })),
+      kept-none (sizes (a .m) (nth (a .joined .now))) (a .ws .now),
+      p .4,
+    )
 
 attempt-requires : tie.Need-attempt-requires Inv-loop μ-loop
 attempt-requires c κs =
     let at = c .before .before .before .before in
-    let p = begun (found (flowed at)) .pre in
-    let v = at .loop .inv in
-    (p .0, omega (arith, p .1, flowed at .largest .ensures .1 .long, v .3 .long), p .2, v .0, omega arith, v .2, v .4)
-
-add-u-2 : tie.Need-add-u-2 Inv-loop μ-loop
-add-u-2 c = omega (arith, c .before .before .before .before .before .loop-test .taken, begun (found (flowed (c .before .before .before .before .before .before))) .pre .0 .taxa)
+    let ties = bound at in
+    let p = begun ties .pre in
+    let v = at .loop .inv in (
+      p .0,
+      omega (arith, p .1, v .3 .long),
+      p .2,
+      v .0,
+      omega arith,
+      v .4,
+      λ h. ties .ties-of .ensures .0 .is (at .loop .u) h (λ e. omega (arith, v .0, is-low (at .before), at .before .lowest .ensures .0)),
+    )
 
 loop-again : tie.Need-loop-again Inv-loop μ-loop
 loop-again c =
-    let v = c .before .before .before .before .before .before .loop .inv in
+    let at = c .before .before .before .before .before .before in
+    let v = at .loop .inv in
     let a = c .before .attempt .ensures in
-    (omega (arith, v .0), omega arith, a .0, kept-then (v .3) (a .1), a .2)
-
-same-length : tie.Need-same-length Inv-loop μ-loop
-same-length c = kept-then (flowed (c .before) .largest .ensures .1) (c .before .loop .inv .3) .long
+    (omega (arith, v .0), omega arith, a .0 (bound at .ties-of .result) (v .2), kept-then (v .3) (a .1), a .2)
 
 returns : tie.Need-returns Inv-loop μ-loop
 returns c =
     let v = c .before .loop in
-    let e : v .u ≡ begun (found (flowed (c .before))) .args .n = omega arith in
-    (rw e at (v .inv .2), kept-then (flowed (c .before) .largest .ensures .1) (v .inv .3), v .inv .4)
+    let ties = bound (c .before) in
+    let start = begun ties in
+    let e : v .u ≡ start .args .n = omega arith in
+    (trying-end (start .pre .0 .taxa) (start .pre .2) (rw e at (v .inv .2)) (ties .ties-of .ensures .1), v .inv .3, v .inv .4)
 
 pub cheapest-spec : {M : Type 1} → statement M
 cheapest-spec =
@@ -103,17 +97,16 @@ cheapest-spec =
     (tie.spec
     Inv-loop
     μ-loop
-    lowest-requires
-    (λ c κs. search needs)
-    rest-requires
-    lowest-requires-2
+    ties-of-requires
+    (λ c κs. some (begun c))
     (λ c. search needs)
-    largest-requires
-    add-u
+    (λ c. omega (arith, c .lowest .ensures .1))
     loop-holds
+    (λ c. search needs)
+    (λ c. let at = c .before .before .before .before in omega (arith, begun (bound at) .pre .0 .taxa, c .before .before .before .loop-test .taken))
     attempt-requires
-    add-u-2
+    (λ c. let at = c .before .before .before .before .before .before in omega (arith, begun (bound at) .pre .0 .taxa, c .before .before .before .before .before .loop-test .taken))
     (λ c. search needs)
     loop-again
-    same-length
+    (λ c. c .before .loop .inv .3 .long)
     returns)

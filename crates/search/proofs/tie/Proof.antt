@@ -1,25 +1,23 @@
--- `search::tie` meets its contract, by the outcome of its tests.
+-- `search::tie` meets its contract, by the outcome of its test.
 use borrow.Author.Needs.{needs}
-use borrow.Author.Tests.{lt-ltb, le-ltb, not-true, not-false}
+use borrow.Author.Tests.{not-true, not-false}
 use native.Mathlib.Omega.{arith}
 use mathlib.Core.Path.{sym, _∙_}
 use Rattle.search.proofs.tie.Statement.{statement}
 use Rattle.search.proofs.tie.Tie as tie
 
 returns : tie.Need-returns
-returns c = (rw (sym (c .before .contains .ensures) ∙ not-true (c .before .contains .result) (c .if1 .taken)), omega arith)
+returns c =
+    let off = sym (c .before .contains .ensures) ∙ not-true (c .before .contains .result) (c .if1 .taken) in
+    (rw off, rw off, omega arith, omega arith)
 
 returns-2 : tie.Need-returns-2
 returns-2 c =
-    let e = c .before .before .before in
-    let h = rw (c .before .before .common .ensures) at (c .before .if2 .taken) in
-    (rw (sym (e .before .contains .ensures) ∙ not-false (e .before .contains .result) (e .if1 .left), lt-ltb 0 _ h) (c .wide .ensures .0), c .wide .ensures .1)
-
-returns-3 : tie.Need-returns-3
-returns-3 c =
-    let e = c .before .before in
-    let h = rw (c .before .common .ensures) at (c .if2 .left) in
-    (rw (sym (e .before .contains .ensures) ∙ not-false (e .before .contains .result) (e .if1 .left), le-ltb 0 _ h), omega arith)
+    let weight = c .before in
+    let e = weight .before .before in
+    let joins = sym (e .before .contains .ensures) ∙ not-false (e .before .contains .result) (e .if1 .left) in
+    let lower = rw (weight .before .common .ensures) at (weight .weight-if .ensures) in
+    (rw joins (lower .0), rw joins (c .wide .ensures .0), lower .1, c .wide .ensures .1)
 
 pub tie-spec : {M : Type 1} → statement M
 tie-spec =
@@ -30,5 +28,5 @@ tie-spec =
     returns
     (λ c κs. search needs)
     (λ c κs. search needs)
-    returns-2
-    returns-3)
+    (λ c κs. search needs)
+    returns-2)
