@@ -17,7 +17,7 @@ use Rattle.method.proofs.Carry.{up, down, room, most, carry}
 use Rattle.search.specs.Workspace.{IsColumn, HasPlace, outs, inns}
 use Rattle.method.proofs.HopTree.{Joined}
 use Rattle.search.specs.Network.{nth, arc, caps, Pair, Ready}
-use Rattle.search.specs.Reaching.{fromOf, viaOf, turnOf, widthOf, carried, IsGate, Rooted, Grow, Leads, Offered, stays, joins, Passed, Missed, Stopped, Standing, Crossed, Swept, Planted, Found}
+use Rattle.search.specs.Reaching.{fromOf, viaOf, turnOf, widthOf, carried, IsGate, Rooted, Grow, Leads, Offered, stays, joins, Passed, Crossed, Missed, Swept, Planted, Found}
 use Rattle.search.proofs.Workspace.{slot-lt, column-place}
 use Rattle.method.proofs.Carry.{same?, carry-up, carry-open}
 use Rattle.method.proofs.Sources.{true?}
@@ -277,22 +277,14 @@ module _ {W P J L : List ℕ} {n m : ℕ} {ws : List ℤ} {X a i a′ a″ : ℕ
 
 -- ---- one column
 
--- A tree stands for any goal while others may be joined.
-pub stands-on : {W P J L : List ℕ} {n m : ℕ} {ws : List ℤ} {X a goal : ℕ} {Y : List ℕ} → Rooted W P J L n m ws X a Y → Standing W P J L n m ws X a Y goal
-stands-on g = record { tree = g .sweeping .tree; long = g .long; rooted = λ h. g }
-
--- What a larger set misses, a smaller one does.
-missed-less : {goal a a′ : ℕ} → ((x : ℕ) → has a x ≡ true → has a′ x ≡ true) → Missed goal a′ → Missed goal a
-missed-less {a = a} k h = record { none = λ x g. ⊎-elim (λ e. absurd (true≢false (sym (k x e) ∙ h .none x g))) (λ e. e) (true? (has a x)) }
-
 module _ {W P J L F : List ℕ} {n m : ℕ} {ws : List ℤ} {X : ℕ} {U : List ℕ} (r : Ready W P J L F n m ws U) {a c : ℕ} (bc : c < m) where
   module _ {Y : List ℕ} (g : Rooted W P J L n m ws X a Y) where
     -- All that it joins is met ..
-    pub cross-full : {goal : ℕ} → nth J c ⊆ a → Crossed W P J L n m ws X a a Y goal c
+    pub cross-full : nth J c ⊆ a → Crossed W P J L n m ws X a a Y c
     cross-full h = record {
-      tree = stands-on g;
+      tree = g;
       keeps = λ x k. k;
-      into = λ e y x k b p. h .sub (record { is = hop-joins r bc (g .sweeping .tree .low y k) b p .1 }) .is;
+      into = λ y x k b p. h .sub (record { is = hop-joins r bc (g .sweeping .tree .low y k) b p .1 }) .is;
     }
 
     -- The hop joins the sender's set.
@@ -300,47 +292,34 @@ module _ {W P J L F : List ℕ} {n m : ℕ} {ws : List ℤ} {X : ℕ} {U : List 
     here y x k b p = in∩ (nth J c) a .1 (record { is = hop-joins r bc (g .sweeping .tree .low y k) b p .0 }, record { is = k }) .is
 
     -- .. or nobody sends ..
-    pub cross-none : {goal : ℕ} → Leads W P J L n ws c (nth J c ∩ a) 64 → Crossed W P J L n m ws X a a Y goal c
-    cross-none l = record { tree = stands-on g; keeps = λ x k. k; into = λ e y x k b p. absurd (l .sends y x (here y x k b p) p .0 refl) }
+    pub cross-none : Leads W P J L n ws c (nth J c ∩ a) 64 → Crossed W P J L n m ws X a a Y c
+    cross-none l = record { tree = g; keeps = λ x k. k; into = λ y x k b p. absurd (l .sends y x (here y x k b p) p .0 refl) }
 
     -- .. or the sender's hops lead wherever the others lead.
-    pub cross : {a′ goal i t : ℕ} {Y′ : List ℕ} → Leads W P J L n ws c (nth J c ∩ a) i → Stopped W P J L n m ws X a a′ Y′ goal i c t → Crossed W P J L n m ws X a a′ Y′ goal c
-    cross {a′} {goal} l s =
-        let p = s .passed in
-        record {
-          tree = record {
-            tree = p .tree .sending .tree;
-            long = p .tree .long;
-            rooted = λ h. record { sweeping = send-end (p .tree .sending) (λ j b. p .into j b (whole h j)); long = p .tree .long };
-          };
-          keeps = p .keeps;
-          into = λ h y x k b q. p .into x b (whole h x) (l .sends y x (here y x k b q) q .1);
-        }
-      where
-        whole : Missed goal a′ → (x : ℕ) → has (s .left) x ≡ false
-        whole h x = ap (λ (l : ℕ). has l x) (s .whole h) ∙ has-none x
+    pub cross : {a′ i t : ℕ} {Y′ : List ℕ} → Leads W P J L n ws c (nth J c ∩ a) i → Passed W P J L n m ws X a a′ Y′ i c t 0 → Crossed W P J L n m ws X a a′ Y′ c
+    cross l p = record {
+      tree = record { sweeping = send-end (p .tree .sending) (λ j b. p .into j b (has-none j)); long = p .tree .long };
+      keeps = p .keeps;
+      into = λ y x k b q. p .into x b (has-none x) (l .sends y x (here y x k b q) q .1);
+    }
 
 -- ---- the columns one after the other
 
--- The tree, of a before, after the hops of the taxa of a through the columns from `first` to below l; after some of them, once a taxon of the goal is reached.
-pub record Over (W P J L : List ℕ) (n m : ℕ) (ws : List ℤ) (X a a′ : ℕ) (Y : List ℕ) (goal first l : ℕ) : Type 0 where
-  pub tree : Standing W P J L n m ws X a′ Y goal
+-- The tree, of a before, after the hops of the taxa of a through the columns from `first` to below l.
+pub record Over (W P J L : List ℕ) (n m : ℕ) (ws : List ℤ) (X a a′ : ℕ) (Y : List ℕ) (first l : ℕ) : Type 0 where
+  pub tree : Rooted W P J L n m ws X a′ Y
   pub keeps : (x : ℕ) → has a x ≡ true → has a′ x ≡ true
-  pub into : Missed goal a′ → (c y x : ℕ) → first ≤ c → c < l → has a y ≡ true → x < n → 0 < carried W P J L n ws c y x → has a′ x ≡ true
+  pub into : (c y x : ℕ) → first ≤ c → c < l → has a y ≡ true → x < n → 0 < carried W P J L n ws c y x → has a′ x ≡ true
 
-module _ {W P J L : List ℕ} {n m : ℕ} {ws : List ℤ} {X a goal first : ℕ} where
-  pub over-none : {Y : List ℕ} → Standing W P J L n m ws X a Y goal → Over W P J L n m ws X a a Y goal first first
-  over-none g = record { tree = g; keeps = λ x h. h; into = λ e c y x f l. absurd (omega arith) }
+module _ {W P J L : List ℕ} {n m : ℕ} {ws : List ℤ} {X a first : ℕ} where
+  pub over-none : {Y : List ℕ} → Rooted W P J L n m ws X a Y → Over W P J L n m ws X a a Y first first
+  over-none g = record { tree = g; keeps = λ x h. h; into = λ c y x f l. absurd (omega arith) }
 
-  pub over-one : {a′ a″ l : ℕ} {Y Y′ : List ℕ} → Over W P J L n m ws X a a′ Y goal first l → Crossed W P J L n m ws X a′ a″ Y′ goal l → Over W P J L n m ws X a a″ Y′ goal first (l + 1)
+  pub over-one : {a′ a″ l : ℕ} {Y Y′ : List ℕ} → Over W P J L n m ws X a a′ Y first l → Crossed W P J L n m ws X a′ a″ Y′ l → Over W P J L n m ws X a a″ Y′ first (l + 1)
   over-one {l = l} u p = record {
     tree = p .tree;
     keeps = λ x h. p .keeps x (u .keeps x h);
-    into = λ e c y x f b h bx q.
-        ⊎-elim
-        (λ here. p .into e y x (u .keeps y h) bx (rw here at q))
-        (λ ne. p .keeps x (u .into (missed-less (p .keeps) e) c y x f (omega arith) h bx q))
-        (same? c l);
+    into = λ c y x f b h bx q. ⊎-elim (λ e. p .into y x (u .keeps y h) bx (rw e at q)) (λ ne. p .keeps x (u .into c y x f (omega arith) h bx q)) (same? c l);
   }
 
 -- ---- sources
@@ -397,11 +376,11 @@ module _ {W P J L : List ℕ} {n m : ℕ} {ws : List ℤ} {X : ℕ} where
       low x h = below n f (record { is = h })
 
   -- Its taxa are below n.
-  pub standing-low : {a goal : ℕ} {Y : List ℕ} → Standing W P J L n m ws X a Y goal → a ≤ all n
-  standing-low {a} g = ⊆-≤ {x = a} {y = all n} (record { sub = λ {i} h. in-all n (g .tree .low i (h .is)) })
+  pub rooted-low : {a : ℕ} {Y : List ℕ} → Rooted W P J L n m ws X a Y → a ≤ all n
+  rooted-low {a} g = ⊆-≤ {x = a} {y = all n} (record { sub = λ {i} h. in-all n (g .sweeping .tree .low i (h .is)) })
 
   -- A whole sweep of nobody.
-  pub swept-none : {a goal : ℕ} {Y : List ℕ} → Standing W P J L n m ws X a Y goal → Swept W P J L n m ws X 0 a Y goal 0
+  pub swept-none : {a goal : ℕ} {Y : List ℕ} → Rooted W P J L n m ws X a Y → Swept W P J L n m ws X 0 a Y goal 0
   swept-none g = record {
     tree = g;
     keeps = λ x h. absurd (true≢false (sym h ∙ has-none x));
@@ -416,4 +395,4 @@ module _ {W P J L : List ℕ} {n m : ℕ} {ws : List ℤ} {X : ℕ} where
       e = omega (arith, ⊆-≤ {x = a} {y = a′} (record { sub = λ {i} h. record { is = v .keeps i (h .is) } }))
 
       found : Swept W P J L n m ws X a a′ Y goal 0 → Found W P J L n m ws X a′ Y goal
-      found u = record { tree = u .tree .tree; all = λ h. reached (u .tree .tree) (r .column) (λ y k c x bc bx. u .into h c y x (omega arith) bc (ap (λ (z : ℕ). has z y) (sym e) ∙ k) bx) }
+      found u = record { tree = u .tree .sweeping .tree; all = λ h. reached (u .tree .sweeping .tree) (r .column) (λ y k c x bc bx. u .into h c y x (omega arith) bc (ap (λ (z : ℕ). has z y) (sym e) ∙ k) bx) }

@@ -68,31 +68,19 @@ pub record Passed (W P J L : List ℕ) (n m : ℕ) (ws : List ℤ) (X a a′ : �
   pub keeps : (x : ℕ) → has a x ≡ true → has a′ x ≡ true
   pub into : (x : ℕ) → x < n → has l x ≡ false → 0 < carried W P J L n ws c i x → has a′ x ≡ true
 
+-- The tree, of a before, after the hops of the taxa of a through column c.
+pub record Crossed (W P J L : List ℕ) (n m : ℕ) (ws : List ℤ) (X a a′ : ℕ) (Y : List ℕ) (c : ℕ) : Type 0 where
+  pub tree : Rooted W P J L n m ws X a′ Y
+  pub keeps : (x : ℕ) → has a x ≡ true → has a′ x ≡ true
+  pub into : (y x : ℕ) → has a y ≡ true → x < n → 0 < carried W P J L n ws c y x → has a′ x ≡ true
+
 -- No taxon of the goal is in a.
 pub record Missed (goal a : ℕ) : Type 0 where
   pub none : (x : ℕ) → has goal x ≡ true → has a x ≡ false
 
--- The same to all taxa; to some, once a taxon of the goal joined.
-pub record Stopped (W P J L : List ℕ) (n m : ℕ) (ws : List ℤ) (X a a′ : ℕ) (Y : List ℕ) (goal i c t : ℕ) : Type 0 where
-  pub left : ℕ
-  pub passed : Passed W P J L n m ws X a a′ Y i c t left
-  pub whole : Missed goal a′ → left ≡ 0
-
--- The tree of the taxa of a, to which others may be joined as long as none is of the goal.
-pub record Standing (W P J L : List ℕ) (n m : ℕ) (ws : List ℤ) (X a : ℕ) (Y : List ℕ) (goal : ℕ) : Type 0 where
-  pub tree : Tree n m (caps W P J) (nth L) (outs ws (nth J)) (inns ws (nth J)) (has X) (has a) (fromOf Y) (viaOf Y) (turnOf Y) (widthOf Y)
-  pub long : length Y ≡ 256
-  pub rooted : Missed goal a → Rooted W P J L n m ws X a Y
-
--- The tree, of a before, after the hops of the taxa of a through column c; after some of them, once a taxon of the goal is reached.
-pub record Crossed (W P J L : List ℕ) (n m : ℕ) (ws : List ℤ) (X a a′ : ℕ) (Y : List ℕ) (goal c : ℕ) : Type 0 where
-  pub tree : Standing W P J L n m ws X a′ Y goal
-  pub keeps : (x : ℕ) → has a x ≡ true → has a′ x ≡ true
-  pub into : Missed goal a′ → (y x : ℕ) → has a y ≡ true → x < n → 0 < carried W P J L n ws c y x → has a′ x ≡ true
-
 -- The tree, of a before, after the hops of the taxa of a through all columns from `first` on; through some, once a taxon of the goal is reached.
 pub record Swept (W P J L : List ℕ) (n m : ℕ) (ws : List ℤ) (X a a′ : ℕ) (Y : List ℕ) (goal first : ℕ) : Type 0 where
-  pub tree : Standing W P J L n m ws X a′ Y goal
+  pub tree : Rooted W P J L n m ws X a′ Y
   pub keeps : (x : ℕ) → has a x ≡ true → has a′ x ≡ true
   pub into : Missed goal a′ → (c y x : ℕ) → first ≤ c → c < m → has a y ≡ true → x < n → 0 < carried W P J L n ws c y x → has a′ x ≡ true
 

@@ -9,7 +9,7 @@ ghost use lib.ListN.{length};
 ghost use Rattle.taxa.specs.Sets.{has, _⊆_, multiplicityIn, Tabled};
 ghost use Rattle.search.specs.Network as network;
 ghost use Rattle.search.specs.Network.{nth, Ready};
-ghost use Rattle.search.specs.Reaching.{turnOf, IsGate, Rooted, Leads, Offered, Missed, Stopped, Standing, Crossed, Swept, Planted, Found};
+ghost use Rattle.search.specs.Reaching.{turnOf, IsGate, Rooted, Leads, Offered, Passed, Crossed, Missed, Swept, Planted, Found};
 
 fn greatest(x: u32, y: u32) -> u32
     ensures { λ r. ⌜ r ≡ max x y ⌝ }
@@ -140,14 +140,7 @@ fn sender(
     found
 }
 
-// Whether a taxon of the goal is in a.
-fn hits(goal: u64, a: u64) -> bool
-    ensures { λ r. ⌜ (r ≡ false → Missed goal a) × (r ≡ true → Missed goal a → ⊥) ⌝ }
-{
-    0 < taxa::common(goal, a)
-}
-
-// The taxa that a hop from i through column c reaches join, until one of the goal is among them.
+// The taxa that a hop from i through column c reaches join.
 fn through(
     weights: &[u16],
     planes: &[u64; 72],
@@ -161,7 +154,6 @@ fn through(
     tree: &mut [u32; 256],
     sources: u64,
     met: u64,
-    goal: u64,
     i: usize,
     c: usize,
 ) -> u64
@@ -171,9 +163,7 @@ fn through(
         × (c < m)
         × (has (nth (now joined) c) i ≡ true)
         × (has met i ≡ true) ⌝ }
-    ensures { λ r. ⌜
-        Stopped (now (weights .entry)) (now (planes .entry)) (now (joined .entry)) (now (limits .entry)) n m (now (ws .entry)) sources met r (now (tree .exit)) goal i c
-        (turnOf (now (tree .entry)) i + 1) ⌝ }
+    ensures { λ r. ⌜ Passed (now (weights .entry)) (now (planes .entry)) (now (joined .entry)) (now (limits .entry)) n m (now (ws .entry)) sources met r (now (tree .exit)) i c (turnOf (now (tree .entry)) i + 1) 0 ⌝ }
 {
     let column = net::column_at(joined, offsets, c);
     let gate = gate_at(
@@ -195,9 +185,6 @@ fn through(
     let mut all = met;
     let mut left = taxa::difference(joined[c], met);
     while 0 < left {
-        if hits(goal, all) {
-            return all;
-        }
         let j = taxa::lowest(left) as usize;
         let k = carry_to(g, planes, j, net::flow(ws, column, j));
         all = offer(tree, all, j, i, c, stamp, k);
@@ -206,7 +193,7 @@ fn through(
     all
 }
 
-// The taxa that a hop from a taxon met through column c reaches join, until one of the goal is among them.
+// The taxa that a hop from a taxon met through column c reaches join.
 fn pass(
     weights: &[u16],
     planes: &[u64; 72],
@@ -220,14 +207,13 @@ fn pass(
     tree: &mut [u32; 256],
     sources: u64,
     met: u64,
-    goal: u64,
     c: usize,
 ) -> u64
     requires { ⌜
         Ready (now weights) (now planes) (now joined) (now limits) (now offsets) n m (now ws) (now used)
         × Rooted (now weights) (now planes) (now joined) (now limits) n m (now ws) sources met (now tree)
         × (c < m) ⌝ }
-    ensures { λ r. ⌜ Crossed (now (weights .entry)) (now (planes .entry)) (now (joined .entry)) (now (limits .entry)) n m (now (ws .entry)) sources met r (now (tree .exit)) goal c ⌝ }
+    ensures { λ r. ⌜ Crossed (now (weights .entry)) (now (planes .entry)) (now (joined .entry)) (now (limits .entry)) n m (now (ws .entry)) sources met r (now (tree .exit)) c ⌝ }
 {
     if taxa::subset(joined[c], met) {
         return met;
@@ -262,10 +248,16 @@ fn pass(
         tree,
         sources,
         met,
-        goal,
         i,
         c,
     )
+}
+
+// Whether a taxon of the goal is in a.
+fn hits(goal: u64, a: u64) -> bool
+    ensures { λ r. ⌜ (r ≡ false → Missed goal a) × (r ≡ true → Missed goal a → ⊥) ⌝ }
+{
+    0 < taxa::common(goal, a)
 }
 
 // One sweep over the columns from the first that is asked for, until a taxon of the goal is reached.
@@ -287,7 +279,7 @@ fn sweep(
 ) -> u64
     requires { ⌜
         Ready (now weights) (now planes) (now joined) (now limits) (now offsets) n m (now ws) (now used)
-        × Standing (now weights) (now planes) (now joined) (now limits) n m (now ws) sources met (now tree) goal ⌝ }
+        × Rooted (now weights) (now planes) (now joined) (now limits) n m (now ws) sources met (now tree) ⌝ }
     ensures { λ r. ⌜ Swept (now (weights .entry)) (now (planes .entry)) (now (joined .entry)) (now (limits .entry)) n m (now (ws .entry)) sources met r (now (tree .exit)) goal first ⌝ }
 {
     let mut all = met;
@@ -308,7 +300,6 @@ fn sweep(
             tree,
             sources,
             all,
-            goal,
             c,
         );
     }

@@ -4,7 +4,7 @@ use native.Mathlib.Omega.{arith}
 use Prim.Native.Nat.{_-_}
 use Rattle.taxa.specs.Sets.{all}
 use Rattle.search.specs.Reaching.{Swept}
-use Rattle.search.proofs.Reaching.{stands-on, root-alone, standing-low, swept-none, swept-all}
+use Rattle.search.proofs.Reaching.{root-alone, rooted-low, swept-none, swept-all}
 use Rattle.search.proofs.reach.reach.Statement.{statement}
 use Rattle.search.proofs.reach.reach.Tie as tie
 
@@ -20,7 +20,7 @@ plant-requires c κs = c .before .before .pre .1
 sweep-requires : tie.Need-sweep-requires Inv-loop μ-loop
 sweep-requires c κs =
     let p = c .before .before .before .before .pre in
-    (p .0, stands-on (root-alone (p .0 .net .taxa) (p .2) (c .before .plant .ensures)))
+    (p .0, root-alone (p .0 .net .taxa) (p .2) (c .before .plant .ensures))
 
 loop-holds : tie.Need-loop-holds Inv-loop μ-loop
 loop-holds c = swept-none (c .sweep .ensures .tree)
@@ -29,7 +29,7 @@ sweep-requires-2 : tie.Need-sweep-requires-2 Inv-loop μ-loop
 sweep-requires-2 c κs = let at = c .before .before in (at .before .before .before .before .before .before .pre .0, at .loop .inv .tree)
 
 loop-less : tie.Need-loop-less Inv-loop μ-loop
-loop-less c = omega (arith, standing-low (c .before .before .before .loop .inv .tree), c .before .before .loop-test .taken)
+loop-less c = omega (arith, rooted-low (c .before .before .before .loop .inv .tree), c .before .before .loop-test .taken)
 
 loop-again : tie.Need-loop-again Inv-loop μ-loop
 loop-again c = c .sweep2 .ensures

@@ -7,7 +7,7 @@ use Rattle.search.proofs.reach.sweep.Statement.{statement}
 use Rattle.search.proofs.reach.sweep.Tie as tie
 
 abbrev Inv-loop : tie.InvT-loop
-Inv-loop weights planes joined limits offsets n m ws used tree₀ sources met goal first all₀ c₀ tree all c = Over weights planes joined limits n m ws sources met all tree goal first c
+Inv-loop weights planes joined limits offsets n m ws used tree₀ sources met goal first all₀ c₀ tree all c = Over weights planes joined limits n m ws sources met all tree first c
 
 abbrev μ-loop : tie.MeasureT-loop
 μ-loop weights planes joined limits offsets n m ws used tree₀ sources met goal first all₀ c₀ tree all c = m - c
@@ -23,7 +23,7 @@ returns c =
 pass-requires : tie.Need-pass-requires Inv-loop μ-loop
 pass-requires c κs =
     let at = c .before .before .before .before in
-    (at .before .before .pre .0, at .loop .inv .tree .rooted (c .before .before .hits .ensures .0 (c .before .if1 .left)), omega arith)
+    (at .before .before .pre .0, at .loop .inv .tree, omega arith)
 
 loop-again : tie.Need-loop-again Inv-loop μ-loop
 loop-again c = over-one (c .before .before .before .before .before .loop .inv) (c .pass .ensures)
@@ -31,7 +31,7 @@ loop-again c = over-one (c .before .before .before .before .before .loop .inv) (
 returns-2 : tie.Need-returns-2 Inv-loop μ-loop
 returns-2 c =
     let v = c .before .loop .inv in
-    record { tree = v .tree; keeps = v .keeps; into = λ h e y x f b. v .into h e y x f (omega arith) }
+    record { tree = v .tree; keeps = v .keeps; into = λ h e y x f b. v .into e y x f (omega arith) }
 
 pub sweep-spec : {M : Type 1} → statement M
 sweep-spec =

@@ -15,13 +15,13 @@ use Rattle.search.proofs.reach.through.Statement.{statement}
 use Rattle.search.proofs.reach.through.Tie as tie
 
 abbrev Inv-loop : tie.InvT-loop
-Inv-loop weights planes joined limits offsets n m ws used tree₀ sources met goal i c column g stamp all₀ left₀ tree all left =
+Inv-loop weights planes joined limits offsets n m ws used tree₀ sources met i c column g stamp all₀ left₀ tree all left =
     ((x : ℕ) → has left x ≡ true → (has (nth joined c) x ≡ true) × (has all x ≡ false))
     × Passed weights planes joined limits n m ws sources met all tree i c (turnOf tree₀ i + 1) left
     × (widthOf tree i ≡ widthOf tree₀ i)
 
 abbrev μ-loop : tie.MeasureT-loop
-μ-loop weights planes joined limits offsets n m ws used tree₀ sources met goal i c column g stamp all₀ left₀ tree all left = left
+μ-loop weights planes joined limits offsets n m ws used tree₀ sources met i c column g stamp all₀ left₀ tree all left = left
 
 -- The way back from the gate to the column and to the start, and from the loop to what i sends and to the gate.
 abbrev known : tie.After-gate-at Inv-loop μ-loop → tie.After-column-at Inv-loop μ-loop
@@ -79,13 +79,9 @@ loop-holds c =
     let p = start .pre in
     rw (c .difference .ensures) (off-in (nth (a .joined .now) (a .c)) (a .met), pass-start (a .c) (p .0) (p .1) (p .2) (p .4), refl)
 
--- One of the goal has joined.
-returns : tie.Need-returns Inv-loop μ-loop
-returns c = let v = c .before .before .before .loop in record { left = v .left; passed = v .inv .1; whole = λ h. absurd (c .before .hits .ensures .1 (c .if1 .taken) h) }
-
 -- The lowest taxon left is joined, and not met.
 abbrev turned : tie.After-lowest Inv-loop μ-loop → tie.At-loop Inv-loop μ-loop
-turned c = c .before .before .before .before
+turned c = c .before .before
 
 new : (c : tie.After-lowest Inv-loop μ-loop) →
     let l = turned c in
@@ -163,10 +159,10 @@ loop-again c =
       other-width o (a .i) apart ∙ v .inv .2,
     )
 
-returns-2 : tie.Need-returns-2 Inv-loop μ-loop
-returns-2 c =
+returns : tie.Need-returns Inv-loop μ-loop
+returns c =
     let e : c .before .loop .left ≡ 0 = omega arith in
-    record { left = c .before .loop .left; passed = c .before .loop .inv .1; whole = λ h. e }
+    rw e at (c .before .loop .inv .1)
 
 pub through-spec : {M : Type 1} → statement M
 through-spec =
@@ -186,8 +182,6 @@ through-spec =
     (λ c κs. search needs)
     loop-holds
     (λ c κs. search needs)
-    returns
-    (λ c κs. search needs)
     (λ c. search needs)
     flow-requires-2
     carry-to-requires
@@ -195,4 +189,4 @@ through-spec =
     (λ c κs. search needs)
     loop-less
     loop-again
-    returns-2)
+    returns)
