@@ -1,25 +1,21 @@
--- One taxon after the other: what ties each to the lower ones, a largest flow to it from those, and the least so far. No set that parts it can cost less than either.
-use Prim.Native.Nat.{ℕ, _+_, _*_, _^_, _≤_, _<_, min}
+-- One taxon after the other: a largest flow to it from all that are lower, what ties it to those, and the least so far. No set that parts it can cost less than either.
+use Prim.Native.Nat.{ℕ, _+_, _*_, _^_, _≤_, _<_}
 use mathlib.Core.Path.{_≡_, refl, sym, ap, _∙_}
 use mathlib.Core.Bool.{Bool, true, false, not, cond, true≢false}
 use mathlib.Core.List.{List}
-use mathlib.Core.Logic.{_≢_, _⊎_, ⊎-elim}
-use native.Mathlib.Nat.{mul-le-mul-left, mul-le-mul-right, mul-comm}
+use mathlib.Core.Logic.{_≢_, ⊎-elim}
+use native.Mathlib.Nat.{mul-le-mul-left, mul-comm}
 use native.Mathlib.Decide.{decLt}
 use native.Mathlib.Omega.{arith}
 use lib.Dec.{ltb}
 use lib.IntN.{ℤ}
-use lib.ListN.{length, set, length-set}
 use lib.Pow.{pow-mono}
-use lib.Seq.{getD-set-same, getD-set-other}
 use borrow.Author.Tests.{ltb-true}
 use Rattle.taxa.specs.Sum.{sum, ∁}
-use Rattle.taxa.specs.Sets.{has, all, _∈_, _∩_, _∖_, count, low, multiplicityIn}
-use Rattle.taxa.proofs.Sums.{sum-≤, sum-≡, sum-*, sum-bound}
+use Rattle.taxa.specs.Sets.{has, all, _∈_, _∩_, low, multiplicityIn}
+use Rattle.taxa.proofs.Sums.{sum-≤, sum-≡, sum-*}
 use Rattle.taxa.proofs.Insides.{inside-term}
-use Rattle.taxa.proofs.Members.{all-<, in-all, in-pow, pow-in, in-pos, out, in∩, ∩-≤, in-remove, below, low-in, low-width}
-use Rattle.taxa.proofs.Counts.{count-pos, count-remove}
-use Rattle.taxa.proofs.Planes.{in-small}
+use Rattle.taxa.proofs.Members.{all-<, in-all, in-pow, pow-in, in-pos, out, in∩, ∩-≤, below, low-in, low-width}
 use Rattle.method.specs.Flow.{cut as cutIn, start}
 use Rattle.method.specs.Sources.{FlowFrom}
 use Rattle.method.proofs.Sources.{true?, Alone, only, only-alone, alone-off}
@@ -29,7 +25,7 @@ use Rattle.search.specs.Workspace.{outs, inns}
 use Rattle.search.specs.Network.{nth, caps, Net}
 use Rattle.search.specs.Flows.{Side, Largest}
 use Rattle.search.specs.Trying.{tie, ties, weighs, Ties, Loose, costs, Parts, AtLeast, Met, Trying, Tried}
-use Rattle.search.proofs.Reaching.{caps-in, gone-one, still-in}
+use Rattle.search.proofs.Reaching.{caps-in}
 use Rattle.search.proofs.Flows.{cut-alone}
 
 -- ---- what one largest flow says
@@ -192,8 +188,9 @@ arcs-of W P J m u =
     times false w = omega arith
 
 -- To part a taxon alone costs no more, so a bound above that is met: some set costs less.
-pub trying-end : {W P J L : List ℕ} {n m S bound k b : ℕ} → n ≤ 64 → S < 2 ^ n → Trying W P J L n m S (low n S) bound n k b → Loose W P J m S bound → Tried W P J L n m S (low n S) n k b
-trying-end {W} {P} {J} {L} {n} {m} {S} {bound} {k} {b} few fits r a = record { tried = r .tried; met = r .met (λ e. omega (arith, less, r .none e)) }
+pub trying-end : {W P J L : List ℕ} {n m S bound k b : ℕ} → n ≤ 64 → S < 2 ^ n → Trying W P J L n m S (low n S) bound n k b → Ties W J m S L → Loose P L S bound
+    → Tried W P J L n m S (low n S) n k b
+trying-end {W} {P} {J} {L} {n} {m} {S} {bound} {k} {b} few fits r t a = record { tried = r .tried; met = r .met (λ e. omega (arith, less, r .none e)) }
   where
     i : ℕ
     i = a .taxon
@@ -214,61 +211,6 @@ trying-end {W} {P} {J} {L} {n} {m} {S} {bound} {k} {b} few fits r a = record { t
           r .tried .least others i held (ap not (only-alone i .held)) (a .inside) bi,
           sum-≤ m {g = cutOf W P J L n others} {h = λ c. caps W P J c i} (λ c b. cut-alone n (caps W P J c) (nth L c) bi),
           arcs-of W P J m i,
+          ap (λ (x : ℕ). x * multiplicityIn P i) (t .weighs-at i (a .inside)),
           a .less,
         )
-
--- ---- what ties the taxa of a group, one by one
-
--- A group of two has a taxon but its lowest.
-some-rest : {S r : ℕ} → S < 2 ^ 64 → 1 < count 64 S → r ≡ S ∖ 2 ^ low 64 S → 0 < r
-some-rest {S} f two q = let s = low-in 64 (count-pos 64 (omega arith)) f in rw q (count-pos 64 (omega (arith, count-remove 64 (below 64 f s) s)))
-
--- "127 x 256 x 65,535"
-weighs-small : (W P J : List ℕ) {m : ℕ} (u : ℕ) → m ≤ 256 → ((c : ℕ) → c < m → nth W c < 65536) → weighs W J m u * multiplicityIn P u ≤ 2130673920
-weighs-small W P J {m} u few light =
-    let most : weighs W J m u ≤ 16776960 = omega (arith, sum-bound m 65535 {g = λ c. cond (has (nth J c) u) (nth W c) 0} (λ c b. cond-≤ (has (nth J c) u) (λ h. omega (arith, light c b)))) in
-    omega (arith, mul-le-mul-right (multiplicityIn P u) most, in-small P u)
-
--- T holds what ties the taxa of S but those of l and the lowest, and to part one alone costs less than k.
-pub record Tying (W P J : List ℕ) (m S : ℕ) (T : List ℕ) (l k : ℕ) : Type 0 where
-  pub inside : (u : ℕ) → has l u ≡ true → (has S u ≡ true) × (u ≢ low 64 S)
-  pub long : length T ≡ 64
-  pub is : (u : ℕ) → has S u ≡ true → u ≢ low 64 S → has l u ≡ false → nth T u ≡ ties W J m (S ∩ all u) u
-  pub loose : Loose W P J m S k
-
-module _ {W P J : List ℕ} {m S : ℕ} where
-  pub tying-start : {T : List ℕ} {r : ℕ} → m ≤ 256 → ((c : ℕ) → c < m → nth W c < 65536) → S < 2 ^ 64 → 1 < count 64 S → length T ≡ 64 → r ≡ S ∖ 2 ^ low 64 S → r < 2 ^ 64
-      → Tying W P J m S T r 4294967295
-  tying-start {r = r} few light f two l q small = record {
-    inside = held;
-    long = l;
-    is = λ u h ne k. absurd (true≢false (sym (ap (λ (x : ℕ). has x u) q ∙ in-remove S (low 64 S) .1 (record { is = h }, ne) .is) ∙ k));
-    loose = record { taxon = u; inside = held u h .0; not-lowest = held u h .1; less = omega (arith, weighs-small W P J u few light) };
-  }
-    where
-      held : (u : ℕ) → has r u ≡ true → (has S u ≡ true) × (u ≢ low 64 S)
-      held u h = still-in S (low 64 S) u (ap (λ (x : ℕ). has x u) (sym q) ∙ h)
-
-      u : ℕ
-      u = low 64 r
-
-      h : has r u ≡ true
-      h = low-in 64 (some-rest f two q) small .is
-
-  -- One taxon further.
-  module _ {T : List ℕ} {l k : ℕ} (t : Tying W P J m S T l k) {i v w : ℕ} (h : has l i ≡ true) (bi : i < 64) (is-v : v ≡ ties W J m (S ∩ all i) i) (is-w : w ≡ weighs W J m i * multiplicityIn P i + 1) where
-    loose-one : Dec (k < w) → Loose W P J m S (min k w)
-    loose-one (yes a) = record { taxon = t .loose .taxon; inside = t .loose .inside; not-lowest = t .loose .not-lowest; less = omega (arith, t .loose .less) }
-    loose-one (no a) = record { taxon = i; inside = t .inside i h .0; not-lowest = t .inside i h .1; less = omega arith }
-
-    pub tying-one : {l′ : ℕ} → l′ ≡ l ∖ 2 ^ i → Tying W P J m S (set T i v) l′ (min k w)
-    tying-one {l′} q = record {
-      inside = λ u g. t .inside u (still-in l i u (ap (λ (x : ℕ). has x u) (sym q) ∙ g) .0);
-      long = length-set T i v ∙ t .long;
-      is = λ u g ne o.
-          ⊎-elim
-          (λ e. rw e (getD-set-same T i v 0 (omega (arith, t .long)) ∙ is-v))
-          (λ d. getD-set-other T i u v 0 d ∙ t .is u g ne (⊎-elim (λ f. f) (λ e. absurd (d e)) (gone-one l i u (ap (λ (x : ℕ). has x u) (sym q) ∙ o))))
-          (same? u i);
-      loose = loose-one (decLt k w);
-    }

@@ -10,14 +10,20 @@ ghost use mathlib.Core.Bool.{true, cond};
 ghost use Prim.Native.Nat.{ℕ, _+_, _≤_, _<_, _^_};
 ghost use lib.Dec.{ltb};
 ghost use lib.ListN.{length};
-ghost use Rattle.taxa.specs.Sets.{has, all, _∩_, count, sizes, low, Tabled};
+ghost use Rattle.taxa.specs.Sets.{has, count, sizes, low, Tabled};
 ghost use Rattle.method.specs.Flow.{arcCount};
 ghost use Rattle.search.specs.Workspace.{cleared, Kept};
 ghost use Rattle.search.specs.Network.{nth, Offsets, Net, Spare, Lent};
 ghost use Rattle.search.specs.Flows.{Side};
 ghost use Rattle.search.specs.Search.{colsOf, Given, DividedByFlow};
-ghost use Rattle.search.specs.Trying as trying;
-ghost use Rattle.search.specs.Trying.{ties, weighs, Ties, Loose, Joins, Limits, Trying, Tried, NetworkDivided};
+ghost use Rattle.search.specs.Trying.{Ties, Few, SameLimits, ColumnAdded, Added, Loose, Joins, Limits, Trying, Tried, NetworkDivided};
+
+// The list of limits has those of 256 columns, then what ties each of 64 taxa to the lower ones, then what the columns weigh that each is the lowest of.
+const TIES: usize = 256;
+
+const FIRSTS: usize = 320;
+
+const LIMITS: usize = 384;
 
 // x, unless z is empty.
 fn unless_none(z: u64, x: u64) -> u64
@@ -35,7 +41,7 @@ fn network_of(
     group: u64,
     m: usize,
     joined: &mut [u64; 256],
-    limits: &mut [u32; 256],
+    limits: &mut [u32; 384],
 )
     requires { ⌜
         (m ≤ 256)
@@ -43,7 +49,7 @@ fn network_of(
         × (m ≤ length (now ones))
         × (m ≤ length (now zeros))
         × (length (now joined) ≡ 256)
-        × (length (now limits) ≡ 256) ⌝ }
+        × (length (now limits) ≡ 384) ⌝ }
     ensures { λ _. ⌜
         Joins (now (ones .entry)) (now (zeros .entry)) group m (now (joined .exit))
         × Limits (now (weights .entry)) (now (planes .entry)) (now (zeros .entry)) group m (now (limits .exit)) ⌝ }
@@ -73,7 +79,7 @@ fn connected(
     weights: &[u16],
     planes: &[u64; 72],
     joined: &[u64; 256],
-    limits: &[u32; 256],
+    limits: &[u32; 384],
     offsets: &[u16; 257],
     n: usize,
     m: usize,
@@ -108,82 +114,73 @@ fn connected(
     )
 }
 
-// What ties a taxon: the weight of the columns that join it with a lower one, and of all that join it.
-struct Bonds {
-    lower: u32,
-    all: u32,
-}
-
-// The weight, unless x is empty.
-fn weight_if(x: u64, weight: u16) -> u32
-    ensures { λ r. ⌜ (r ≡ cond (ltb 0 x) weight 0) × (r < 65536) ⌝ }
+// No taxon is tied.
+fn untied(limits: &mut [u32; 384])
+    requires { ⌜ length (now limits) ≡ 384 ⌝ }
+    ensures { λ _. ⌜
+        SameLimits (now (limits .entry)) (now (limits .exit))
+        × ((p : ℕ) → 256 ≤ p → p < 384 → nth (now (limits .exit)) p ≡ 0) ⌝ }
 {
-    if 0 < x { net::wide(weight) } else { 0 }
-}
-
-// What a column of the weight that joins `joined` adds to what ties taxon u.
-fn tie(weight: u16, joined: u64, lower: u64, u: usize) -> Bonds
-    requires { ⌜ u < 64 ⌝ }
-    ensures { λ r. ⌜
-        (r .lower ≡ trying.tie weight joined lower u)
-        × (r .all ≡ cond (has joined u) weight 0)
-        × (r .lower < 65536)
-        × (r .all < 65536) ⌝ }
-{
-    if !taxa::contains(joined, u as u32) {
-        return Bonds { lower: 0, all: 0 };
+    for p in TIES..LIMITS {
+        limits[p] = 0;
     }
-    let lower = weight_if(taxa::common(joined, lower), weight);
-    let all = net::wide(weight);
-    Bonds { lower, all }
 }
 
-// What ties taxon u, with those of `lower` below it.
-fn tied(weights: &[u16], joined: &[u64; 256], m: usize, lower: u64, u: usize) -> Bonds
-    requires { ⌜ (m ≤ 256) × (m ≤ length (now weights)) × (u < 64) ⌝ }
-    ensures { λ r. ⌜
-        (r .lower ≡ ties (now (weights .entry)) (now (joined .entry)) m lower u)
-        × (r .all ≡ weighs (now (weights .entry)) (now (joined .entry)) m u)
-        × (r .all ≤ 16776960) ⌝ }
+// The taxa of x are tied by a weight.
+fn tie(limits: &mut [u32; 384], x: u64, weight: u16)
+    requires { ⌜ (length (now limits) ≡ 384) × Few 4294901760 (now limits) ⌝ }
+    ensures { λ _. ⌜ Added x weight (now (limits .entry)) (now (limits .exit)) ⌝ }
 {
-    let mut sum = Bonds { lower: 0, all: 0 };
+    let mut left = x;
+    while 0 < left {
+        let p = TIES + taxa::lowest(left) as usize;
+        limits[p] = limits[p] + net::wide(weight);
+        left = taxa::rest(left);
+    }
+}
+
+// A column that joins x ties all its taxa but the lowest to that.
+fn tie_column(limits: &mut [u32; 384], x: u64, weight: u16)
+    requires { ⌜ (length (now limits) ≡ 384) × Few 4294901760 (now limits) ⌝ }
+    ensures { λ _. ⌜ ColumnAdded x weight (now (limits .entry)) (now (limits .exit)) ⌝ }
+{
+    if x == 0 {
+        return;
+    }
+    tie(limits, taxa::rest(x), weight);
+    let p = FIRSTS + taxa::lowest(x) as usize;
+    limits[p] = limits[p] + net::wide(weight);
+}
+
+// What ties each taxon of the group to the lower ones, and what the columns weigh that it is the lowest of, go behind the limits.
+fn ties_of(weights: &[u16], joined: &[u64; 256], group: u64, m: usize, limits: &mut [u32; 384])
+    requires { ⌜ (m ≤ 256) × (m ≤ length (now weights)) × (length (now limits) ≡ 384) ⌝ }
+    ensures { λ _. ⌜
+        Ties (now (weights .entry)) (now (joined .entry)) m group (now (limits .exit))
+        × SameLimits (now (limits .entry)) (now (limits .exit)) ⌝ }
+{
+    untied(limits);
     for c in 0..m {
-        let more = tie(weights[c], joined[c], lower, u);
-        sum = Bonds {
-            lower: sum.lower + more.lower,
-            all: sum.all + more.all,
-        };
+        tie_column(limits, taxa::common(joined[c], group), weights[c]);
     }
-    sum
 }
 
-// What ties each taxon of the group but its lowest to the lower ones; and a bound: to part one of them alone costs less.
-fn ties_of(
-    weights: &[u16],
-    planes: &[u64; 72],
-    joined: &[u64; 256],
-    group: u64,
-    m: usize,
-    ties: &mut [u32; 64],
-) -> u32
+// To part some taxon of the group but its lowest alone costs less than this.
+fn bound_of(planes: &[u64; 72], limits: &[u32; 384], group: u64) -> u32
     requires { ⌜
-        (m ≤ 256)
-        × (m ≤ length (now weights))
-        × Tabled (now planes)
+        Tabled (now planes)
         × (1 < count 64 group)
-        × (length (now ties) ≡ 64) ⌝ }
-    ensures { λ r. ⌜
-        Ties (now (weights .entry)) (now (joined .entry)) m group (now (ties .exit))
-        × Loose (now (weights .entry)) (now (planes .entry)) (now (joined .entry)) m group r ⌝ }
+        × (length (now limits) ≡ 384)
+        × ((u : ℕ) → has group u ≡ true → nth (now limits) (256 + u) + nth (now limits) (320 + u) ≤ 16776960) ⌝ }
+    ensures { λ r. ⌜ Loose (now (planes .entry)) (now (limits .entry)) group r ⌝ }
 {
     let mut bound: u32 = 4294967295;
     let mut left = taxa::rest(group);
     while 0 < left {
         let i = taxa::lowest(left);
         let u = i as usize;
-        let found = tied(weights, joined, m, taxa::common(group, taxa::all(i)), u);
-        ties[u] = found.lower;
-        bound = taxa::least(bound, found.all * taxa::multiplicity(planes, i) + 1);
+        let weight = limits[TIES + u] + limits[FIRSTS + u];
+        bound = taxa::least(bound, weight * taxa::multiplicity(planes, i) + 1);
         left = taxa::rest(left);
     }
     bound
@@ -201,7 +198,7 @@ fn attempt(
     weights: &[u16],
     planes: &[u64; 72],
     joined: &[u64; 256],
-    limits: &[u32; 256],
+    limits: &[u32; 384],
     offsets: &[u16; 257],
     group: u64,
     n: usize,
@@ -211,7 +208,6 @@ fn attempt(
     tree: &mut [u32; 256],
     best: Best,
     u: usize,
-    tie: u32,
 ) -> Best
     requires { ⌜
         Net (now weights) (now planes) (now joined) (now limits) (now offsets) n m
@@ -220,7 +216,7 @@ fn attempt(
         × (low n group < u)
         × (u < n)
         × Spare (now used) (now tree)
-        × (has group u ≡ true → tie ≡ ties (now weights) (now joined) m (group ∩ all u) u) ⌝ }
+        × Ties (now weights) (now joined) m group (now limits) ⌝ }
     ensures { λ r. ⌜
         ((bound : ℕ) → Trying (now (weights .entry)) (now (planes .entry)) (now (joined .entry)) (now (limits .entry)) n m group (low n group) bound u (best .cost) (best .other)
         → Trying (now (weights .entry)) (now (planes .entry)) (now (joined .entry)) (now (limits .entry)) n m group (low n group) bound (u + 1) (r .cost) (r .other))
@@ -230,7 +226,7 @@ fn attempt(
     if !taxa::contains(group, u as u32) {
         return best;
     }
-    if best.cost <= tie {
+    if best.cost <= limits[TIES + u] {
         return best;
     }
     let cut = push::largest(
@@ -263,7 +259,7 @@ fn cheapest(
     weights: &[u16],
     planes: &[u64; 72],
     joined: &[u64; 256],
-    limits: &[u32; 256],
+    limits: &[u32; 384],
     offsets: &[u16; 257],
     group: u64,
     n: usize,
@@ -277,14 +273,14 @@ fn cheapest(
         × (sizes m (nth (now joined)) ≤ length (now ws))
         × (group < 2 ^ n)
         × (1 < count n group)
-        × Spare (now used) (now tree) ⌝ }
+        × Spare (now used) (now tree)
+        × Ties (now weights) (now joined) m group (now limits) ⌝ }
     ensures { λ r. ⌜
         Tried (now (weights .entry)) (now (planes .entry)) (now (joined .entry)) (now (limits .entry)) n m group (low n group) n (r .cost) (r .other)
         × Kept (sizes m (nth (now (joined .entry)))) (now (ws .entry)) (now (ws .exit))
         × Spare (now (used .exit)) (now (tree .exit)) ⌝ }
 {
-    let mut ties = [0u32; 64];
-    let bound = ties_of(weights, planes, joined, group, m, &mut ties);
+    let bound = bound_of(planes, limits, group);
     let mut best = Best {
         cost: bound,
         other: 64,
@@ -305,7 +301,6 @@ fn cheapest(
             tree,
             best,
             u,
-            ties[u],
         );
     }
     best
@@ -323,7 +318,7 @@ fn by_flows(
     weights: &[u16],
     planes: &[u64; 72],
     joined: &[u64; 256],
-    limits: &[u32; 256],
+    limits: &[u32; 384],
     offsets: &[u16; 257],
     group: u64,
     n: usize,
@@ -337,7 +332,8 @@ fn by_flows(
         × (sizes m (nth (now joined)) ≤ length (now ws))
         × (group < 2 ^ n)
         × (1 < count n group)
-        × Spare (now used) (now tree) ⌝ }
+        × Spare (now used) (now tree)
+        × Ties (now weights) (now joined) m group (now limits) ⌝ }
     ensures { λ r. ⌜
         NetworkDivided (now (weights .entry)) (now (planes .entry)) (now (joined .entry)) (now (limits .entry)) n m group (now (ws .exit)) (r .cost) (r .other) (r .side)
         × Kept (sizes m (nth (now (joined .entry)))) (now (ws .entry)) (now (ws .exit))
@@ -391,7 +387,7 @@ pub fn divide(
     m: usize,
     ws: &mut [i32],
     joined: &mut [u64; 256],
-    limits: &mut [u32; 256],
+    limits: &mut [u32; 384],
     offsets: &mut [u16; 257],
     used: &mut [u32; 256],
     tree: &mut [u32; 256],
@@ -430,6 +426,7 @@ pub fn divide(
             other: taxa::lowest(off) as usize,
         };
     }
+    ties_of(weights, joined, group, m, limits);
     by_flows(
         weights,
         planes,

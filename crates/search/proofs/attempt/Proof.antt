@@ -28,14 +28,14 @@ in-group c = sym (c .before .contains .ensures) ∙ not-false (c .before .contai
 
 returns-2 : tie.Need-returns-2
 returns-2 c =
-    let x = c .before .before in
+    let x = c .before .before .before in
     let a = begun x .args in
     let p = begun x .pre in
-    (λ bound r. tried-tied r (p .0) (p .4) (omega (arith, p .6 (in-group x), c .if2 .taken)), kept-none (sizes (a .m) (nth (a .joined .now))) (a .ws .now), p .5)
+    (λ bound r. tried-tied r (p .0) (p .4) (omega (arith, p .6 .ties-at (begun x .args .u) (in-group x), c .if2 .taken)), kept-none (sizes (a .m) (nth (a .joined .now))) (a .ws .now), p .5)
 
 -- The taxa of the group below it.
 abbrev tested : tie.After-common → tie.Else1
-tested c = c .before .before .before .before .before .before .before
+tested c = c .before .before .before .before .before .before .before .before
 
 is-lower : (c : tie.After-common) → let a = begun (tested c) .args in c .common .result ≡ a .group ∩ all (a .u)
 is-lower c = rw (c .before .all .ensures) at (c .common .ensures)
@@ -77,6 +77,7 @@ attempt-spec =
     (λ c. search needs)
     (λ c κs. search needs)
     returns
+    (λ c. search needs) (λ c. search needs) (λ c. search needs)
     returns-2
     (λ c. search needs)
     (λ c κs. search needs)

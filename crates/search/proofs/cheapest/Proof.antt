@@ -1,7 +1,7 @@
 -- `search::cheapest` meets its contract. The invariant: the taxa below u have been tried.
 use borrow.Author.Needs.{needs}
 use native.Mathlib.Omega.{arith}
-use mathlib.Core.Path.{_≡_, refl, sym, _∙_}
+use mathlib.Core.Path.{_≡_, sym, _∙_}
 use Prim.Native.Nat.{ℕ, _<_, _≤_, _-_}
 use Rattle.taxa.specs.Sets.{count, sizes, low}
 use Rattle.taxa.proofs.Counts.{count-pos, count-width}
@@ -10,12 +10,13 @@ use Rattle.search.specs.Workspace.{Kept}
 use Rattle.search.specs.Network.{nth, Spare}
 use Rattle.search.specs.Trying.{Trying}
 use Rattle.search.proofs.Workspace.{kept-none, kept-then}
+use Rattle.search.proofs.Ties.{weighs-small}
 use Rattle.search.proofs.Trying.{trying-start, trying-end}
 use Rattle.search.proofs.cheapest.Statement.{statement}
 use Rattle.search.proofs.cheapest.Tie as tie
 
 abbrev Inv-loop : tie.InvT-loop
-Inv-loop weights planes joined limits offsets group n m ws₀ used₀ tree₀ ties bound best₀ s u₀ ws used tree best u =
+Inv-loop weights planes joined limits offsets group n m ws₀ used₀ tree₀ bound best₀ s u₀ ws used tree best u =
     (low n group < u)
     × (u ≤ n)
     × Trying weights planes joined limits n m group (low n group) bound u (best .cost) (best .other)
@@ -23,20 +24,23 @@ Inv-loop weights planes joined limits offsets group n m ws₀ used₀ tree₀ ti
     × Spare used tree
 
 abbrev μ-loop : tie.MeasureT-loop
-μ-loop weights planes joined limits offsets group n m ws₀ used₀ tree₀ ties bound best₀ s u₀ ws used tree best u = n - u
+μ-loop weights planes joined limits offsets group n m ws₀ used₀ tree₀ bound best₀ s u₀ ws used tree best u = n - u
 
--- The way back from the ties to the start, and from the loop to them.
-abbrev begun : tie.After-ties-of Inv-loop μ-loop → tie.Start Inv-loop μ-loop
-begun c = c .before .before .before
+-- The way back from the bound to the start, and from the loop to it.
+abbrev begun : tie.After-bound-of Inv-loop μ-loop → tie.Start Inv-loop μ-loop
+begun c = c .before .before
 
-abbrev bound : tie.At-loop Inv-loop μ-loop → tie.After-ties-of Inv-loop μ-loop
-bound c = c .before .before
+abbrev bounded : tie.At-loop Inv-loop μ-loop → tie.After-bound-of Inv-loop μ-loop
+bounded c = c .before .before
 
-ties-of-requires : tie.Need-ties-of-requires Inv-loop μ-loop
-ties-of-requires c κs =
-    let start = c .before .before in
-    let p = start .pre in
-    (p .0 .columns, p .0 .weights, p .0 .tabled, omega (arith, p .3, count-width (p .0 .taxa) (p .2)), refl)
+bound-of-requires : tie.Need-bound-of-requires Inv-loop μ-loop
+bound-of-requires c κs =
+    let p = c .before .pre in (
+      p .0 .tabled,
+      omega (arith, p .3, count-width (p .0 .taxa) (p .2)),
+      p .5 .long,
+      weighs-small (p .0 .columns) (λ k b. omega (arith, c .shared-slice-known .given k)) (p .5),
+    )
 
 some : (c : tie.Start Inv-loop μ-loop) → 0 < c .args .group
 some c = count-pos (c .args .n) (omega (arith, c .pre .3))
@@ -56,7 +60,7 @@ loop-holds c =
     rw (is-low c) (
       omega arith,
       omega (arith, low-small c),
-      trying-start (c .before .ties-of .result) (λ i h. low-≤ (a .n) (p .2) (record { is = h })),
+      trying-start (c .before .bound-of .result) (λ i h. low-≤ (a .n) (p .2) (record { is = h })),
       kept-none (sizes (a .m) (nth (a .joined .now))) (a .ws .now),
       p .4,
     )
@@ -64,32 +68,24 @@ loop-holds c =
 attempt-requires : tie.Need-attempt-requires Inv-loop μ-loop
 attempt-requires c κs =
     let at = c .before .before .before .before in
-    let ties = bound at in
-    let p = begun ties .pre in
-    let v = at .loop .inv in (
-      p .0,
-      omega (arith, p .1, v .3 .long),
-      p .2,
-      v .0,
-      omega arith,
-      v .4,
-      λ h. ties .ties-of .ensures .0 .is (at .loop .u) h (λ e. omega (arith, v .0, is-low (at .before), at .before .lowest .ensures .0)),
-    )
+    let p = begun (bounded at) .pre in
+    let v = at .loop .inv in
+    (p .0, omega (arith, p .1, v .3 .long), p .2, v .0, omega arith, v .4, p .5)
 
 loop-again : tie.Need-loop-again Inv-loop μ-loop
 loop-again c =
     let at = c .before .before .before .before .before .before in
     let v = at .loop .inv in
     let a = c .before .attempt .ensures in
-    (omega (arith, v .0), omega arith, a .0 (bound at .ties-of .result) (v .2), kept-then (v .3) (a .1), a .2)
+    (omega (arith, v .0), omega arith, a .0 (bounded at .bound-of .result) (v .2), kept-then (v .3) (a .1), a .2)
 
 returns : tie.Need-returns Inv-loop μ-loop
 returns c =
     let v = c .before .loop in
-    let ties = bound (c .before) in
-    let start = begun ties in
+    let start = begun (bounded (c .before)) in
+    let p = start .pre in
     let e : v .u ≡ start .args .n = omega arith in
-    (trying-end (start .pre .0 .taxa) (start .pre .2) (rw e at (v .inv .2)) (ties .ties-of .ensures .1), v .inv .3, v .inv .4)
+    (trying-end (p .0 .taxa) (p .2) (rw e at (v .inv .2)) (p .5) (bounded (c .before) .bound-of .ensures), v .inv .3, v .inv .4)
 
 pub cheapest-spec : {M : Type 1} → statement M
 cheapest-spec =
@@ -97,15 +93,13 @@ cheapest-spec =
     (tie.spec
     Inv-loop
     μ-loop
-    ties-of-requires
+    bound-of-requires
     (λ c κs. some (begun c))
     (λ c. search needs)
     (λ c. omega (arith, c .lowest .ensures .1))
     loop-holds
-    (λ c. search needs)
-    (λ c. let at = c .before .before .before .before in omega (arith, begun (bound at) .pre .0 .taxa, c .before .before .before .loop-test .taken))
     attempt-requires
-    (λ c. let at = c .before .before .before .before .before .before in omega (arith, begun (bound at) .pre .0 .taxa, c .before .before .before .before .before .loop-test .taken))
+    (λ c. let at = c .before .before .before .before .before .before in omega (arith, begun (bounded at) .pre .0 .taxa, c .before .before .before .before .before .loop-test .taken))
     (λ c. search needs)
     loop-again
     (λ c. c .before .loop .inv .3 .long)

@@ -14,7 +14,9 @@ use Rattle.method.specs.Flow.{arcCount}
 use Rattle.search.specs.Search.{colsOf}
 use Rattle.search.specs.Workspace.{Kept}
 use Rattle.search.specs.Network.{nth, Net, Spare, Lent}
+use Rattle.search.specs.Trying.{Limits}
 use Rattle.search.proofs.Workspace.{cleared-kept, kept-then}
+use Rattle.search.proofs.Ties.{limits-still}
 use Rattle.search.proofs.Group.{source-is, net, arcs-are, divided-free}
 use Rattle.search.proofs.divide.Statement.{statement}
 use Rattle.search.proofs.divide.Tie as tie
@@ -44,10 +46,14 @@ limits c = made c .network-of .last .1 .1 .1 .1 .1 .1 .1 .0
 abbrev offsets : tie.After-offsets-of → List ℕ
 offsets c = c .offsets-of .last .1 .1 .0
 
+-- A weight has 16 bits.
+light : (c : tie.After-offsets-of) → (k : ℕ) → k < begun c .args .m → nth (begun c .args .weights .now) k < 65536
+light c k b = omega (arith, made c .before .before .before .before .before .shared-slice-known .given k)
+
 network : (c : tie.After-offsets-of) → let a = begun c .args in Net (a .weights .now) (a .planes .now) (joins c) (limits c) (offsets c) (a .n) (a .m)
 network c =
     let e = made c .network-of .ensures in
-    net (begun c .pre .0) (e .0) (e .1) (c .offsets-of .ensures) (λ k b. omega (arith, made c .before .before .before .before .before .shared-slice-known .given k))
+    net (begun c .pre .0) (e .0) (e .1) (c .offsets-of .ensures) (light c)
 
 -- The places are as many as the group's network has arcs.
 arcs : (c : tie.After-offsets-of) → let a = begun c .args in sizes (a .m) (nth (joins c)) ≡ arcCount (a .m) (colsOf (a .weights .now) (a .ones .now) (a .zeros .now)) (a .group)
@@ -99,22 +105,43 @@ returns c =
       lent l (d .2),
     )
 
+-- flows decide. What ties the taxa went behind the limits, which are as they were.
+abbrev parted : tie.After-ties-of → tie.After-connected
+parted c = c .before .before .before .before .before .before
+
+abbrev tied : tie.After-ties-of → List ℕ
+tied c = c .ties-of .last .1 .1 .1 .1 .0
+
+still : (c : tie.After-ties-of) → let a = begun (placed (sourced (parted c))) .args in Limits (a .weights .now) (a .planes .now) (a .zeros .now) (a .group) (a .m) (tied c)
+still c = let l = placed (sourced (parted c)) in limits-still (begun l .pre .0 .columns) (c .ties-of .ensures .1) (made l .network-of .ensures .1)
+
 by-flows-requires : tie.Need-by-flows-requires
 by-flows-requires c κs =
-    let met = c .before .before .before .before .before .before .before .before .before in
+    let t = c .before .before .before .before .before .before in
+    let met = parted t in
     let l = placed (sourced met) in
-    let g = begun l .pre .0 in
-    (network l, omega (arith, room l, emptied met .long), g .group, g .two, met .connected .ensures .2)
+    let g = begun l .pre .0 in (
+      net g (made l .network-of .ensures .0) (still t) (l .offsets-of .ensures) (light l),
+      omega (arith, room l, emptied met .long),
+      g .group,
+      g .two,
+      met .connected .ensures .2,
+      t .ties-of .ensures .0,
+    )
 
--- flows decide.
 returns-2 : tie.Need-returns-2
 returns-2 c =
-    let met = c .before .before .before .before .before .before .before .before .before .before .before in
+    let t = c .before .before .before .before .before .before .before .before in
+    let met = parted t in
     let l = placed (sourced met) in
     let a = begun l .args in
-    let e = made l .network-of .ensures in
-    let f = c .before .by-flows .ensures in
-    (f .0 .each (a .ones .now) (a .zeros .now) (begun l .pre .0) (e .0) (e .1), told l, rw (sym (arcs l)) (kept-then (emptied met) (f .1)), lent l (f .2))
+    let e = made l .network-of .ensures .0 in
+    let f = c .before .by-flows .ensures in (
+      f .0 .each (a .ones .now) (a .zeros .now) (begun l .pre .0) e (still t),
+      told l,
+      rw (sym (arcs l)) (kept-then (emptied met) (f .1)),
+      record { joins = e .long; limits = still t .long; offsets = l .offsets-of .ensures .long; spare = f .2 },
+    )
 
 pub divide-spec : {M : Type 1} → statement M
 divide-spec =
@@ -129,6 +156,7 @@ divide-spec =
     (λ c κs. search needs)
     (λ c. search needs) (λ c. search needs)
     returns
+    (λ c κs. let l = placed (sourced (c .before .before .before .before .before)) in let p = begun l .pre in (p .0 .columns, p .0 .weights, made l .network-of .ensures .1 .long))
     by-flows-requires
     (λ c. search needs)
     returns-2)

@@ -34,7 +34,7 @@ some-count {x} f =
 
 abbrev Inv-loop : tie.InvT-loop
 Inv-loop weights planes ones zeros group m joined₀ limits₀ c₀ joined limits c =
-    (c ≤ m) × Table 256 (joinedAt ones zeros group) joined c × Table 256 (limitAt weights planes zeros group) limits c
+    (c ≤ m) × Table 256 (joinedAt ones zeros group) joined c × Table 384 (limitAt weights planes zeros group) limits c
 
 abbrev μ-loop : tie.MeasureT-loop
 μ-loop weights planes ones zeros group m joined₀ limits₀ c₀ joined limits c = m - c
@@ -69,7 +69,7 @@ loop-again c =
     let fits : z .result < 2 ^ 64 = omega (arith, z .ensures, ∩-≤ (nth (a .zeros .now) (turned c .loop .c)) (a .group), start .fits .group .fits) in (
       omega arith,
       table-next (v .1) b (joins .unless-none .ensures ∙ ap₂ (λ (t : Bool) (x : ℕ). cond t x 0) (some-count fits ∙ ap (λ (x : ℕ). ltb 0 (count 64 x)) (z .ensures)) (joins .before .common2 .ensures)),
-      table-next (v .2) b (ap₂ (λ (x y : ℕ). x * y) (c .before .wide .ensures .0) (c .mass-in .ensures .0 ∙ ap (mass 64 (multiplicityIn (a .planes .now))) (z .ensures))),
+      table-next (v .2) (omega (arith, b)) (ap₂ (λ (x y : ℕ). x * y) (c .before .wide .ensures .0) (c .mass-in .ensures .0 ∙ ap (mass 64 (multiplicityIn (a .planes .now))) (z .ensures))),
     )
 
 returns : tie.Need-returns Inv-loop μ-loop
