@@ -15,7 +15,7 @@ extern void search_group(const uint16_t *w, uint64_t, const uint64_t *planes, co
 // The lists that the crate lends for all groups of a tree.
 static struct {
     uint64_t joined[256];
-    uint32_t limits[384], used[256], tree[256];
+    uint32_t limits[320], used[256], tree[256];
     uint16_t offsets[257];
 } lent;
 

@@ -37,7 +37,7 @@ pub extern "C" fn search_group(
     m: usize,
     ws: &mut [i32],
     joined: &mut [u64; 256],
-    limits: &mut [u32; 384],
+    limits: &mut [u32; 320],
     offsets: &mut [u16; 257],
     used: &mut [u32; 256],
     tree: &mut [u32; 256],

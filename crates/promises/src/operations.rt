@@ -80,7 +80,7 @@ pub fn search(
         × Kept (arcCount m (colsOf (now (weights .entry)) (now (ones .entry)) (now (zeros .entry))) group) (now (workspace .entry)) (now (workspace .exit)) ⌝ }
 {
     let mut joined = [0u64; 256];
-    let mut limits = [0u32; 384];
+    let mut limits = [0u32; 320];
     let mut offsets = [0u16; 257];
     let mut used = [0u32; 256];
     let mut tree = [0u32; 256];

@@ -24,7 +24,7 @@ use Rattle.method.proofs.Carry.{same?}
 use Rattle.search.specs.Workspace.{outs, inns}
 use Rattle.search.specs.Network.{nth, caps, Net}
 use Rattle.search.specs.Flows.{Side, Largest}
-use Rattle.search.specs.Trying.{tie, ties, weighs, Ties, Loose, costs, Parts, AtLeast, Met, Trying, Tried}
+use Rattle.search.specs.Trying.{tie, ties, weighs, Weighed, Loose, costs, Parts, AtLeast, Met, Trying, Tried}
 use Rattle.search.proofs.Reaching.{caps-in}
 use Rattle.search.proofs.Flows.{cut-alone}
 
@@ -188,7 +188,7 @@ arcs-of W P J m u =
     times false w = omega arith
 
 -- To part a taxon alone costs no more, so a bound above that is met: some set costs less.
-pub trying-end : {W P J L : List ℕ} {n m S bound k b : ℕ} → n ≤ 64 → S < 2 ^ n → Trying W P J L n m S (low n S) bound n k b → Ties W J m S L → Loose P L S bound
+pub trying-end : {W P J L : List ℕ} {n m S bound k b : ℕ} → n ≤ 64 → S < 2 ^ n → Trying W P J L n m S (low n S) bound n k b → {B : List ℕ} → Weighed W J m S L B → Loose P L B S bound
     → Tried W P J L n m S (low n S) n k b
 trying-end {W} {P} {J} {L} {n} {m} {S} {bound} {k} {b} few fits r t a = record { tried = r .tried; met = r .met (λ e. omega (arith, less, r .none e)) }
   where

@@ -61,7 +61,7 @@ pub record Spare (U Y : List ℕ) : Type 0 where
 -- All lent lists of the search.
 pub record Lent (J L F U Y : List ℕ) : Type 0 where
   pub joins : length J ≡ 256
-  pub limits : length L ≡ 384
+  pub limits : length L ≡ 320
   pub offsets : length F ≡ 257
   pub spare : Spare U Y
 

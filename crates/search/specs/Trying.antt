@@ -2,7 +2,7 @@
 use mathlib.Core.Path.{_≡_}
 use mathlib.Core.Bool.{Bool, true, false, cond}
 use mathlib.Core.List.{List}
-use mathlib.Core.Logic.{_≢_, _⊎_}
+use mathlib.Core.Logic.{_≢_}
 use Prim.Native.Nat.{ℕ, _+_, _*_, _^_, _≤_, _<_}
 use lib.Dec.{ltb}
 use lib.IntN.{ℤ}
@@ -20,7 +20,7 @@ pub record Joins (O Z : List ℕ) (S m : ℕ) (J : List ℕ) : Type 0 where
 
 -- For each column below m, what it lets through.
 pub record Limits (W P Z : List ℕ) (S m : ℕ) (L : List ℕ) : Type 0 where
-  pub long : length L ≡ 384
+  pub long : length L ≡ 320
   pub is : (c : ℕ) → c < m → nth L c ≡ nth W c * mass 64 (multiplicityIn P) (nth Z c ∩ S)
 
 -- What a column of weight w that joins j weighs between taxon u and those of l: w, if it joins u with one of them.
@@ -35,40 +35,43 @@ ties W J m l u = sum m (λ c. tie (nth W c) (nth J c) l u)
 abbrev pub weighs : List ℕ → List ℕ → ℕ → ℕ → ℕ
 weighs W J m u = sum m (λ c. cond (has (nth J c) u) (nth W c) 0)
 
--- Behind the limits of 256 columns L holds for each taxon what ties it to the lower ones, and then for each what the columns weigh that it is the lowest of; here of
--- those of S, in m columns.
+-- Behind the limits of 256 columns L holds what ties each taxon of S to the lower ones of S, by m columns.
 pub record Ties (W J : List ℕ) (m S : ℕ) (L : List ℕ) : Type 0 where
-  pub long : length L ≡ 384
+  pub long : length L ≡ 320
   pub ties-at : (u : ℕ) → has S u ≡ true → nth L (256 + u) ≡ ties W J m (S ∩ all u) u
-  pub weighs-at : (u : ℕ) → has S u ≡ true → nth L (256 + u) + nth L (320 + u) ≡ weighs W J m u
 
--- No number behind the limits is above k.
-pub record Few (k : ℕ) (L : List ℕ) : Type 0 where
-  pub at : (u : ℕ) → u < 64 → (nth L (256 + u) ≤ k) × (nth L (320 + u) ≤ k)
+-- With that, B holds what all columns weigh that join it: those that it is the lowest of.
+pub record Weighed (W J : List ℕ) (m S : ℕ) (L B : List ℕ) : Type 0 where
+  pub long : length B ≡ 256
+  pub weighs-at : (u : ℕ) → has S u ≡ true → nth L (256 + u) + nth B u ≡ weighs W J m u
+
+-- No number of either is above k.
+pub record Few (k : ℕ) (L B : List ℕ) : Type 0 where
+  pub ties-few : (u : ℕ) → u < 64 → nth L (256 + u) ≤ k
+  pub own-few : (u : ℕ) → u < 64 → nth B u ≤ k
 
 -- The limits of the columns are as they were.
 pub record SameLimits (L L′ : List ℕ) : Type 0 where
-  pub long : length L′ ≡ 384
+  pub long : length L′ ≡ 320
   pub same : (c : ℕ) → c < 256 → nth L′ c ≡ nth L c
-
--- A column of weight w that joins x is added there: its lowest taxon, and those that it ties.
-pub record ColumnAdded (x w : ℕ) (L L′ : List ℕ) : Type 0 where
-  pub limits : SameLimits L L′
-  pub ties-at : (u : ℕ) → u < 64 → nth L′ (256 + u) ≡ nth L (256 + u) + cond (has (x ∖ 2 ^ low 64 x) u) w 0
-  pub weighs-at : (u : ℕ) → u < 64 → nth L′ (256 + u) + nth L′ (320 + u) ≡ nth L (256 + u) + nth L (320 + u) + cond (has x u) w 0
 
 -- The taxa of x are tied by a weight w.
 pub record Added (x w : ℕ) (L L′ : List ℕ) : Type 0 where
-  pub long : length L′ ≡ 384
-  pub at : (u : ℕ) → u < 64 → nth L′ (256 + u) ≡ nth L (256 + u) + cond (has x u) w 0
-  pub rest : (p : ℕ) → (p < 256) ⊎ (320 ≤ p) → nth L′ p ≡ nth L p
+  pub limits : SameLimits L L′
+  pub ties-at : (u : ℕ) → u < 64 → nth L′ (256 + u) ≡ nth L (256 + u) + cond (has x u) w 0
+
+-- A column of weight w that joins x ties its taxa but the lowest, and is the lowest's own.
+pub record ColumnAdded (x w : ℕ) (L L′ B B′ : List ℕ) : Type 0 where
+  pub tied : Added (x ∖ 2 ^ low 64 x) w L L′
+  pub long : length B′ ≡ 256
+  pub own-at : (u : ℕ) → u < 64 → nth B′ u + cond (has (x ∖ 2 ^ low 64 x) u) w 0 ≡ nth B u + cond (has x u) w 0
 
 -- What the columns weigh that join some taxon of S but its lowest, times what that stands for, is less than k: to part it alone costs no more than that.
-pub record Loose (P L : List ℕ) (S k : ℕ) : Type 0 where
+pub record Loose (P L B : List ℕ) (S k : ℕ) : Type 0 where
   pub taxon : ℕ
   pub inside : has S taxon ≡ true
   pub not-lowest : taxon ≢ low 64 S
-  pub less : (nth L (256 + taxon) + nth L (320 + taxon)) * multiplicityIn P taxon < k
+  pub less : (nth L (256 + taxon) + nth B taxon) * multiplicityIn P taxon < k
 
 -- What a set of taxa cuts of the network in the lists.
 abbrev pub costs : List ℕ → List ℕ → List ℕ → List ℕ → ℕ → ℕ → (ℕ → Bool) → ℕ

@@ -16,14 +16,12 @@ ghost use Rattle.search.specs.Workspace.{cleared, Kept};
 ghost use Rattle.search.specs.Network.{nth, Offsets, Net, Spare, Lent};
 ghost use Rattle.search.specs.Flows.{Side};
 ghost use Rattle.search.specs.Search.{colsOf, Given, DividedByFlow};
-ghost use Rattle.search.specs.Trying.{Ties, Few, SameLimits, ColumnAdded, Added, Loose, Joins, Limits, Trying, Tried, NetworkDivided};
+ghost use Rattle.search.specs.Trying.{Ties, Weighed, Few, SameLimits, ColumnAdded, Added, Loose, Joins, Limits, Trying, Tried, NetworkDivided};
 
-// The list of limits has those of 256 columns, then what ties each of 64 taxa to the lower ones, then what the columns weigh that each is the lowest of.
+// The list of limits has those of 256 columns, and then what ties each of 64 taxa to the lower ones.
 const TIES: usize = 256;
 
-const FIRSTS: usize = 320;
-
-const LIMITS: usize = 384;
+const LIMITS: usize = 320;
 
 // x, unless z is empty.
 fn unless_none(z: u64, x: u64) -> u64
@@ -41,7 +39,7 @@ fn network_of(
     group: u64,
     m: usize,
     joined: &mut [u64; 256],
-    limits: &mut [u32; 384],
+    limits: &mut [u32; 320],
 )
     requires { ⌜
         (m ≤ 256)
@@ -49,7 +47,7 @@ fn network_of(
         × (m ≤ length (now ones))
         × (m ≤ length (now zeros))
         × (length (now joined) ≡ 256)
-        × (length (now limits) ≡ 384) ⌝ }
+        × (length (now limits) ≡ 320) ⌝ }
     ensures { λ _. ⌜
         Joins (now (ones .entry)) (now (zeros .entry)) group m (now (joined .exit))
         × Limits (now (weights .entry)) (now (planes .entry)) (now (zeros .entry)) group m (now (limits .exit)) ⌝ }
@@ -79,7 +77,7 @@ fn connected(
     weights: &[u16],
     planes: &[u64; 72],
     joined: &[u64; 256],
-    limits: &[u32; 384],
+    limits: &[u32; 320],
     offsets: &[u16; 257],
     n: usize,
     m: usize,
@@ -115,11 +113,11 @@ fn connected(
 }
 
 // No taxon is tied.
-fn untied(limits: &mut [u32; 384])
-    requires { ⌜ length (now limits) ≡ 384 ⌝ }
+fn untied(limits: &mut [u32; 320])
+    requires { ⌜ length (now limits) ≡ 320 ⌝ }
     ensures { λ _. ⌜
         SameLimits (now (limits .entry)) (now (limits .exit))
-        × ((p : ℕ) → 256 ≤ p → p < 384 → nth (now (limits .exit)) p ≡ 0) ⌝ }
+        × ((u : ℕ) → u < 64 → nth (now (limits .exit)) (256 + u) ≡ 0) ⌝ }
 {
     for p in TIES..LIMITS {
         limits[p] = 0;
@@ -127,8 +125,8 @@ fn untied(limits: &mut [u32; 384])
 }
 
 // The taxa of x are tied by a weight.
-fn tie(limits: &mut [u32; 384], x: u64, weight: u16)
-    requires { ⌜ (length (now limits) ≡ 384) × Few 4294901760 (now limits) ⌝ }
+fn tie(limits: &mut [u32; 320], x: u64, weight: u16)
+    requires { ⌜ (length (now limits) ≡ 320) × ((u : ℕ) → u < 64 → nth (now limits) (256 + u) ≤ 4294901760) ⌝ }
     ensures { λ _. ⌜ Added x weight (now (limits .entry)) (now (limits .exit)) ⌝ }
 {
     let mut left = x;
@@ -139,47 +137,61 @@ fn tie(limits: &mut [u32; 384], x: u64, weight: u16)
     }
 }
 
-// A column that joins x ties all its taxa but the lowest to that.
-fn tie_column(limits: &mut [u32; 384], x: u64, weight: u16)
-    requires { ⌜ (length (now limits) ≡ 384) × Few 4294901760 (now limits) ⌝ }
-    ensures { λ _. ⌜ ColumnAdded x weight (now (limits .entry)) (now (limits .exit)) ⌝ }
+// A column that joins x ties all its taxa but the lowest to that, and is the lowest's own.
+fn tie_column(limits: &mut [u32; 320], own: &mut [u32; 256], x: u64, weight: u16)
+    requires { ⌜ (length (now limits) ≡ 320) × (length (now own) ≡ 256) × Few 4294901760 (now limits) (now own) ⌝ }
+    ensures { λ _. ⌜ ColumnAdded x weight (now (limits .entry)) (now (limits .exit)) (now (own .entry)) (now (own .exit)) ⌝ }
 {
     if x == 0 {
         return;
     }
     tie(limits, taxa::rest(x), weight);
-    let p = FIRSTS + taxa::lowest(x) as usize;
-    limits[p] = limits[p] + net::wide(weight);
+    let first = taxa::lowest(x) as usize;
+    own[first] = own[first] + net::wide(weight);
 }
 
-// What ties each taxon of the group to the lower ones, and what the columns weigh that it is the lowest of, go behind the limits.
-fn ties_of(weights: &[u16], joined: &[u64; 256], group: u64, m: usize, limits: &mut [u32; 384])
-    requires { ⌜ (m ≤ 256) × (m ≤ length (now weights)) × (length (now limits) ≡ 384) ⌝ }
+// What ties each taxon of the group to the lower ones goes behind the limits; and what its own columns weigh, those that it is the lowest of.
+fn ties_of(
+    weights: &[u16],
+    joined: &[u64; 256],
+    group: u64,
+    m: usize,
+    limits: &mut [u32; 320],
+    own: &mut [u32; 256],
+)
+    requires { ⌜
+        (m ≤ 256)
+        × (m ≤ length (now weights))
+        × (length (now limits) ≡ 320)
+        × (length (now own) ≡ 256) ⌝ }
     ensures { λ _. ⌜
         Ties (now (weights .entry)) (now (joined .entry)) m group (now (limits .exit))
+        × Weighed (now (weights .entry)) (now (joined .entry)) m group (now (limits .exit)) (now (own .exit))
         × SameLimits (now (limits .entry)) (now (limits .exit)) ⌝ }
 {
     untied(limits);
+    push::unused(own, 64);
     for c in 0..m {
-        tie_column(limits, taxa::common(joined[c], group), weights[c]);
+        tie_column(limits, own, taxa::common(joined[c], group), weights[c]);
     }
 }
 
 // To part some taxon of the group but its lowest alone costs less than this.
-fn bound_of(planes: &[u64; 72], limits: &[u32; 384], group: u64) -> u32
+fn bound_of(planes: &[u64; 72], limits: &[u32; 320], own: &[u32; 256], group: u64) -> u32
     requires { ⌜
         Tabled (now planes)
         × (1 < count 64 group)
-        × (length (now limits) ≡ 384)
-        × ((u : ℕ) → has group u ≡ true → nth (now limits) (256 + u) + nth (now limits) (320 + u) ≤ 16776960) ⌝ }
-    ensures { λ r. ⌜ Loose (now (planes .entry)) (now (limits .entry)) group r ⌝ }
+        × (length (now limits) ≡ 320)
+        × (length (now own) ≡ 256)
+        × ((u : ℕ) → has group u ≡ true → nth (now limits) (256 + u) + nth (now own) u ≤ 16776960) ⌝ }
+    ensures { λ r. ⌜ Loose (now (planes .entry)) (now (limits .entry)) (now (own .entry)) group r ⌝ }
 {
     let mut bound: u32 = 4294967295;
     let mut left = taxa::rest(group);
     while 0 < left {
         let i = taxa::lowest(left);
         let u = i as usize;
-        let weight = limits[TIES + u] + limits[FIRSTS + u];
+        let weight = limits[TIES + u] + own[u];
         bound = taxa::least(bound, weight * taxa::multiplicity(planes, i) + 1);
         left = taxa::rest(left);
     }
@@ -198,7 +210,7 @@ fn attempt(
     weights: &[u16],
     planes: &[u64; 72],
     joined: &[u64; 256],
-    limits: &[u32; 384],
+    limits: &[u32; 320],
     offsets: &[u16; 257],
     group: u64,
     n: usize,
@@ -259,7 +271,7 @@ fn cheapest(
     weights: &[u16],
     planes: &[u64; 72],
     joined: &[u64; 256],
-    limits: &[u32; 384],
+    limits: &[u32; 320],
     offsets: &[u16; 257],
     group: u64,
     n: usize,
@@ -274,13 +286,14 @@ fn cheapest(
         × (group < 2 ^ n)
         × (1 < count n group)
         × Spare (now used) (now tree)
-        × Ties (now weights) (now joined) m group (now limits) ⌝ }
+        × Ties (now weights) (now joined) m group (now limits)
+        × Weighed (now weights) (now joined) m group (now limits) (now used) ⌝ }
     ensures { λ r. ⌜
         Tried (now (weights .entry)) (now (planes .entry)) (now (joined .entry)) (now (limits .entry)) n m group (low n group) n (r .cost) (r .other)
         × Kept (sizes m (nth (now (joined .entry)))) (now (ws .entry)) (now (ws .exit))
         × Spare (now (used .exit)) (now (tree .exit)) ⌝ }
 {
-    let bound = bound_of(planes, limits, group);
+    let bound = bound_of(planes, limits, used, group);
     let mut best = Best {
         cost: bound,
         other: 64,
@@ -318,7 +331,7 @@ fn by_flows(
     weights: &[u16],
     planes: &[u64; 72],
     joined: &[u64; 256],
-    limits: &[u32; 384],
+    limits: &[u32; 320],
     offsets: &[u16; 257],
     group: u64,
     n: usize,
@@ -333,7 +346,8 @@ fn by_flows(
         × (group < 2 ^ n)
         × (1 < count n group)
         × Spare (now used) (now tree)
-        × Ties (now weights) (now joined) m group (now limits) ⌝ }
+        × Ties (now weights) (now joined) m group (now limits)
+        × Weighed (now weights) (now joined) m group (now limits) (now used) ⌝ }
     ensures { λ r. ⌜
         NetworkDivided (now (weights .entry)) (now (planes .entry)) (now (joined .entry)) (now (limits .entry)) n m group (now (ws .exit)) (r .cost) (r .other) (r .side)
         × Kept (sizes m (nth (now (joined .entry)))) (now (ws .entry)) (now (ws .exit))
@@ -387,7 +401,7 @@ pub fn divide(
     m: usize,
     ws: &mut [i32],
     joined: &mut [u64; 256],
-    limits: &mut [u32; 384],
+    limits: &mut [u32; 320],
     offsets: &mut [u16; 257],
     used: &mut [u32; 256],
     tree: &mut [u32; 256],
@@ -426,7 +440,7 @@ pub fn divide(
             other: taxa::lowest(off) as usize,
         };
     }
-    ties_of(weights, joined, group, m, limits);
+    ties_of(weights, joined, group, m, limits, used);
     by_flows(
         weights,
         planes,

@@ -46,7 +46,7 @@ fn split_loaded(
     let planes = matrix::planes_in(file);
     search::net::clear(workspace, needed);
     let mut joined = [0u64; 256];
-    let mut limits = [0u32; 384];
+    let mut limits = [0u32; 320];
     let mut offsets = [0u16; 257];
     let mut used = [0u32; 256];
     let mut tree = [0u32; 256];

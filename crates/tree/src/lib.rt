@@ -96,7 +96,7 @@ fn grow_all(
 {
     let mut list = [0u64; 128];
     let mut joined = [0u64; 256];
-    let mut limits = [0u32; 384];
+    let mut limits = [0u32; 320];
     let mut offsets = [0u16; 257];
     let mut used = [0u32; 256];
     let mut tree = [0u32; 256];

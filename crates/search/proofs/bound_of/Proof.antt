@@ -11,15 +11,15 @@ use Rattle.search.proofs.bound_of.Statement.{statement}
 use Rattle.search.proofs.bound_of.Tie as tie
 
 abbrev Inv-loop : tie.InvT-loop
-Inv-loop planes limits group bound₀ left₀ bound left = Binding planes limits group left bound
+Inv-loop planes limits own group bound₀ left₀ bound left = Binding planes limits own group left bound
 
 abbrev μ-loop : tie.MeasureT-loop
-μ-loop planes limits group bound₀ left₀ bound left = left
+μ-loop planes limits own group bound₀ left₀ bound left = left
 
 loop-holds : tie.Need-loop-holds Inv-loop μ-loop
 loop-holds c =
     let p = c .before .pre in
-    binding-start (omega arith) (p .1) (p .3) (c .rest .ensures .0) (omega (arith, c .rest .ensures .1))
+    binding-start (omega arith) (p .1) (p .4) (c .rest .ensures .0) (omega (arith, c .rest .ensures .1))
 
 -- The way back from a taxon to the start.
 abbrev begun : tie.After-lowest Inv-loop μ-loop → tie.Start Inv-loop μ-loop
@@ -27,14 +27,14 @@ begun c = c .before .before .before .before
 
 -- What joins it, and that times what it stands for.
 weight-small : (c : tie.After-lowest Inv-loop μ-loop) →
-    let L = begun c .args .limits .now in
-    nth L (256 + c .lowest .result) + nth L (320 + c .lowest .result) ≤ 16776960
-weight-small c = begun c .pre .3 (c .lowest .result) (c .before .before .loop .inv .inside (c .lowest .result) (c .lowest .ensures .2 .is) .0)
+    let a = begun c .args in
+    nth (a .limits .now) (256 + c .lowest .result) + nth (a .own .now) (c .lowest .result) ≤ 16776960
+weight-small c = begun c .pre .4 (c .lowest .result) (c .before .before .loop .inv .inside (c .lowest .result) (c .lowest .ensures .2 .is) .0)
 
 product : (c : tie.After-multiplicity Inv-loop μ-loop) →
     let l = c .before .before .before in
-    let L = begun l .args .limits .now in
-    (nth L (256 + l .lowest .result) + nth L (320 + l .lowest .result)) * c .multiplicity .result ≤ 2130673920
+    let a = begun l .args in
+    (nth (a .limits .now) (256 + l .lowest .result) + nth (a .own .now) (l .lowest .result)) * c .multiplicity .result ≤ 2130673920
 product c =
     let l = c .before .before .before in
     rw (c .multiplicity .ensures .0) (times-small (begun l .args .planes .now) (l .lowest .result) (weight-small l))
@@ -43,11 +43,11 @@ loop-again : tie.Need-loop-again Inv-loop μ-loop
 loop-again c =
     let times = c .before .before in
     let l = times .before .before .before in
-    let L = begun l .args .limits .now in
+    let a = begun l .args in
     let left = l .before .before .loop .left in
     rw (c .before .least .ensures)
     (binding-one (l .before .before .loop .inv) (l .lowest .result) (l .lowest .ensures .2 .is)
-    (ap (λ (y : ℕ). (nth L (256 + l .lowest .result) + nth L (320 + l .lowest .result)) * y + 1) (times .multiplicity .ensures .0))
+    (ap (λ (y : ℕ). (nth (a .limits .now) (256 + l .lowest .result) + nth (a .own .now) (l .lowest .result)) * y + 1) (times .multiplicity .ensures .0))
     (c .rest2 .ensures .0 ∙ ap (λ (y : ℕ). left ∖ 2 ^ y) (sym (l .lowest .ensures .0))))
 
 pub bound-of-spec : {M : Type 1} → statement M
@@ -63,7 +63,6 @@ bound-of-spec =
     (λ c. omega (arith, c .lowest .ensures .1))
     (λ c. omega (arith, c .lowest .ensures .1))
     (λ c. omega (arith, c .lowest .ensures .1))
-    (λ c. omega (arith, c .before .lowest .ensures .1))
     (λ c. omega (arith, c .before .lowest .ensures .1))
     (λ c. omega (arith, c .before .lowest .ensures .1))
     (λ c. omega (arith, weight-small (c .before .before)))

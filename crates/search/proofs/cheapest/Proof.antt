@@ -28,18 +28,19 @@ abbrev μ-loop : tie.MeasureT-loop
 
 -- The way back from the bound to the start, and from the loop to it.
 abbrev begun : tie.After-bound-of Inv-loop μ-loop → tie.Start Inv-loop μ-loop
-begun c = c .before .before
+begun c = c .before .before .before
 
 abbrev bounded : tie.At-loop Inv-loop μ-loop → tie.After-bound-of Inv-loop μ-loop
 bounded c = c .before .before
 
 bound-of-requires : tie.Need-bound-of-requires Inv-loop μ-loop
 bound-of-requires c κs =
-    let p = c .before .pre in (
+    let p = c .before .before .pre in (
       p .0 .tabled,
       omega (arith, p .3, count-width (p .0 .taxa) (p .2)),
       p .5 .long,
-      weighs-small (p .0 .columns) (λ k b. omega (arith, c .shared-slice-known .given k)) (p .5),
+      p .6 .long,
+      weighs-small (p .0 .columns) (λ k b. omega (arith, c .before .shared-slice-known .given k)) (p .6),
     )
 
 some : (c : tie.Start Inv-loop μ-loop) → 0 < c .args .group
@@ -85,7 +86,7 @@ returns c =
     let start = begun (bounded (c .before)) in
     let p = start .pre in
     let e : v .u ≡ start .args .n = omega arith in
-    (trying-end (p .0 .taxa) (p .2) (rw e at (v .inv .2)) (p .5) (bounded (c .before) .bound-of .ensures), v .inv .3, v .inv .4)
+    (trying-end (p .0 .taxa) (p .2) (rw e at (v .inv .2)) (p .6) (bounded (c .before) .bound-of .ensures), v .inv .3, v .inv .4)
 
 pub cheapest-spec : {M : Type 1} → statement M
 cheapest-spec =

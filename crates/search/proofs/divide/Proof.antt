@@ -107,13 +107,13 @@ returns c =
 
 -- flows decide. What ties the taxa went behind the limits, which are as they were.
 abbrev parted : tie.After-ties-of → tie.After-connected
-parted c = c .before .before .before .before .before .before
+parted c = c .before .before .before .before .before .before .before
 
 abbrev tied : tie.After-ties-of → List ℕ
 tied c = c .ties-of .last .1 .1 .1 .1 .0
 
 still : (c : tie.After-ties-of) → let a = begun (placed (sourced (parted c))) .args in Limits (a .weights .now) (a .planes .now) (a .zeros .now) (a .group) (a .m) (tied c)
-still c = let l = placed (sourced (parted c)) in limits-still (begun l .pre .0 .columns) (c .ties-of .ensures .1) (made l .network-of .ensures .1)
+still c = let l = placed (sourced (parted c)) in limits-still (begun l .pre .0 .columns) (c .ties-of .ensures .2) (made l .network-of .ensures .1)
 
 by-flows-requires : tie.Need-by-flows-requires
 by-flows-requires c κs =
@@ -125,8 +125,9 @@ by-flows-requires c κs =
       omega (arith, room l, emptied met .long),
       g .group,
       g .two,
-      met .connected .ensures .2,
+      record { counts = t .ties-of .ensures .1 .long; tree = met .connected .ensures .2 .tree },
       t .ties-of .ensures .0,
+      t .ties-of .ensures .1,
     )
 
 returns-2 : tie.Need-returns-2
@@ -156,7 +157,11 @@ divide-spec =
     (λ c κs. search needs)
     (λ c. search needs) (λ c. search needs)
     returns
-    (λ c κs. let l = placed (sourced (c .before .before .before .before .before)) in let p = begun l .pre in (p .0 .columns, p .0 .weights, made l .network-of .ensures .1 .long))
+    (λ c κs.
+    let met = c .before .before .before .before .before .before in
+    let l = placed (sourced met) in
+    let g = begun l .pre .0 in
+    (g .columns, g .weights, made l .network-of .ensures .1 .long, met .connected .ensures .2 .counts))
     by-flows-requires
     (λ c. search needs)
     returns-2)

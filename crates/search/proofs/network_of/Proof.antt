@@ -34,7 +34,7 @@ some-count {x} f =
 
 abbrev Inv-loop : tie.InvT-loop
 Inv-loop weights planes ones zeros group m joined₀ limits₀ c₀ joined limits c =
-    (c ≤ m) × Table 256 (joinedAt ones zeros group) joined c × Table 384 (limitAt weights planes zeros group) limits c
+    (c ≤ m) × Table 256 (joinedAt ones zeros group) joined c × Table 320 (limitAt weights planes zeros group) limits c
 
 abbrev μ-loop : tie.MeasureT-loop
 μ-loop weights planes ones zeros group m joined₀ limits₀ c₀ joined limits c = m - c

@@ -51,7 +51,7 @@ tie-spec =
     (λ c. omega (arith, c .lowest .ensures .1))
     (λ c. omega (arith, c .lowest .ensures .1))
     (λ c κs. search needs)
-    (λ c. let l = c .before .before in omega (arith, was l, turned l .before .pre .1 .at (l .lowest .result) (l .lowest .ensures .1) .0, c .wide .ensures .1))
+    (λ c. let l = c .before .before in omega (arith, was l, turned l .before .pre .1 (l .lowest .result) (l .lowest .ensures .1), c .wide .ensures .1))
     (λ c. omega (arith, c .before .before .lowest .ensures .1))
     (λ c. omega (arith, c .before .before .lowest .ensures .1))
     (λ c κs. omega (arith, c .before .before .before .loop-test .taken))

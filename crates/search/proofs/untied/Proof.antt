@@ -1,19 +1,19 @@
 -- `search::untied` meets its contract. The invariant: the numbers passed are 0.
 use borrow.Author.Needs.{needs}
 use native.Mathlib.Omega.{arith}
-use Prim.Native.Nat.{_≤_, _-_}
+use Prim.Native.Nat.{_+_, _≤_, _-_}
 use Rattle.search.proofs.Ties.{Blank, blank-start, blank-one}
 use Rattle.search.proofs.untied.Statement.{statement}
 use Rattle.search.proofs.untied.Tie as tie
 
 abbrev Inv-loop : tie.InvT-loop
-Inv-loop limits₀ p₀ limits p = (256 ≤ p) × (p ≤ 384) × Blank limits₀ limits p
+Inv-loop limits₀ p₀ limits p = (256 ≤ p) × (p ≤ 320) × Blank limits₀ limits p
 
 abbrev μ-loop : tie.MeasureT-loop
-μ-loop limits₀ p₀ limits p = 384 - p
+μ-loop limits₀ p₀ limits p = 320 - p
 
 returns : tie.Need-returns Inv-loop μ-loop
-returns c = let v = c .before .loop .inv in (v .2 .limits, λ p a b. v .2 .none p a (omega arith))
+returns c = let v = c .before .loop .inv in (v .2 .limits, λ u b. v .2 .none (256 + u) (omega arith) (omega arith))
 
 pub untied-spec : {M : Type 1} → statement M
 untied-spec =
