@@ -156,24 +156,36 @@ static Cut largest(Flow f, uint64_t sources, unsigned t, uint32_t bound) {
     return cut;
 }
 
-// What the columns that join u with a taxon of `lower` weigh.
-static uint32_t tied(Flow f, uint64_t lower, unsigned u) {
-    uint32_t sum = 0;
-    for (int c = 0; c < f.m; c++)
-        if (joined[c] & single(u) && joined[c] & lower) sum += f.weights[c];
-    return sum;
+// What ties each taxon to the lower ones: the weight of the columns that join it and that it is not the lowest of; and the weight of those that it is.
+static uint32_t ties[N], own[N];
+
+static void ties_of(Flow f) {
+    memset(ties, 0, sizeof ties);
+    memset(own, 0, sizeof own);
+    for (int c = 0; c < f.m; c++) {
+        if (!joined[c]) continue;
+        own[low(joined[c])] += f.weights[c];
+        for (uint64_t x = rest(joined[c]); x; x = rest(x)) ties[low(x)] += f.weights[c];
+    }
 }
 
-// The first taxon of the group that is parted from its lowest, s, for the least. Of a taxon u, only what parts it from all below it can cost less than
+// To part some taxon of the group but its lowest alone costs less than this.
+static uint32_t bound_of(uint64_t group) {
+    uint32_t bound = UNBOUNDED;
+    for (uint64_t left = rest(group); left; left = rest(left)) bound = least(bound, ties[low(left)] + own[low(left)] + 1);
+    return bound;
+}
+
+// The first taxon of the group that is parted from its lowest for the least. Of a taxon u, only what parts it from all below it can cost less than
 // what was found for those: a flow from all of them decides, and where columns tie u to them for no less, none is needed.
-static unsigned cheapest(Flow f, uint64_t group, unsigned s) {
-    unsigned other = low(rest(group));
-    uint32_t cost = largest(f, single(s), other, UNBOUNDED).size;
-    for (uint64_t left = rest(rest(group)); left; left = rest(left)) {
+static unsigned cheapest(Flow f, uint64_t group) {
+    ties_of(f);
+    uint32_t cost = bound_of(group);
+    unsigned other = NOBODY;
+    for (uint64_t left = rest(group); left; left = rest(left)) {
         unsigned u = low(left);
-        uint64_t lower = group & (single(u) - 1);
-        if (cost <= tied(f, lower, u)) continue;
-        uint32_t size = largest(f, lower, u, cost).size;
+        if (cost <= ties[u]) continue;
+        uint32_t size = largest(f, group & (single(u) - 1), u, cost).size;
         if (cost <= size) continue;
         cost = size;
         other = u;
@@ -189,7 +201,7 @@ static Split plain(const uint16_t *weights, const uint64_t *ones, const uint64_t
     // No path came before: the first sweep is left out, and whole ones do.
     uint64_t met = reach(f, single(s), 0, (unsigned)m);
     if (met != group) return (Split){0, met, low(group & ~met)};
-    unsigned t = cheapest(f, group, s);
+    unsigned t = cheapest(f, group);
     Cut cut = largest(f, single(s), t, UNBOUNDED);
     return (Split){cut.size, cut.side, t};
 }
