@@ -9,8 +9,8 @@
  * Nothing is written through it and nothing is kept.
  *
  * Stack: a call of the check takes 120 bytes at most, one of the score 2,504.
- * The operations that this library does not export yet take 37,440 (build) and
- * 12,000 (split). Measured on x86-64 for 64 taxa and 256 columns, the most
+ * The operations that this library does not export yet take 37,696 (build) and
+ * 12,256 (split). Measured on x86-64 for 64 taxa and 256 columns, the most
  * there can be; every release keeps below 1, 4, 40 and 12 KiB.
  */
 #ifndef FLIPCUT_H

@@ -4,6 +4,6 @@ pub mod Reaching
 pub mod Flows
 pub mod Same
 pub mod Tables
-pub mod Ties
+pub mod Bonds
 pub mod Trying
 pub mod Group

@@ -4,24 +4,20 @@
 pub mod net;
 mod push;
 mod reach;
+mod ties;
 
 ghost use mathlib.Core.Path.{_≡_};
-ghost use mathlib.Core.Bool.{true, cond};
+ghost use mathlib.Core.Bool.{cond};
 ghost use Prim.Native.Nat.{ℕ, _+_, _≤_, _<_, _^_};
 ghost use lib.Dec.{ltb};
 ghost use lib.ListN.{length};
-ghost use Rattle.taxa.specs.Sets.{has, count, sizes, low, Tabled};
+ghost use Rattle.taxa.specs.Sets.{count, sizes, low};
 ghost use Rattle.method.specs.Flow.{arcCount};
 ghost use Rattle.search.specs.Workspace.{cleared, Kept};
 ghost use Rattle.search.specs.Network.{nth, Offsets, Net, Spare, Lent};
 ghost use Rattle.search.specs.Flows.{Side};
 ghost use Rattle.search.specs.Search.{colsOf, Given, DividedByFlow};
-ghost use Rattle.search.specs.Trying.{Ties, Weighed, Few, SameLimits, ColumnAdded, Added, Loose, Joins, Limits, Trying, Tried, NetworkDivided};
-
-// The list of limits has those of 256 columns, and then what ties each of 64 taxa to the lower ones.
-const TIES: usize = 256;
-
-const LIMITS: usize = 320;
+ghost use Rattle.search.specs.Trying.{Ties, Weighed, Joins, Limits, Trying, Tried, NetworkDivided};
 
 // x, unless z is empty.
 fn unless_none(z: u64, x: u64) -> u64
@@ -112,92 +108,6 @@ fn connected(
     )
 }
 
-// No taxon is tied.
-fn untied(limits: &mut [u32; 320])
-    requires { ⌜ length (now limits) ≡ 320 ⌝ }
-    ensures { λ _. ⌜
-        SameLimits (now (limits .entry)) (now (limits .exit))
-        × ((u : ℕ) → u < 64 → nth (now (limits .exit)) (256 + u) ≡ 0) ⌝ }
-{
-    for p in TIES..LIMITS {
-        limits[p] = 0;
-    }
-}
-
-// The taxa of x are tied by a weight.
-fn tie(limits: &mut [u32; 320], x: u64, weight: u16)
-    requires { ⌜ (length (now limits) ≡ 320) × ((u : ℕ) → u < 64 → nth (now limits) (256 + u) ≤ 4294901760) ⌝ }
-    ensures { λ _. ⌜ Added x weight (now (limits .entry)) (now (limits .exit)) ⌝ }
-{
-    let mut left = x;
-    while 0 < left {
-        let p = TIES + taxa::lowest(left) as usize;
-        limits[p] = limits[p] + net::wide(weight);
-        left = taxa::rest(left);
-    }
-}
-
-// A column that joins x ties all its taxa but the lowest to that, and is the lowest's own.
-fn tie_column(limits: &mut [u32; 320], own: &mut [u32; 256], x: u64, weight: u16)
-    requires { ⌜ (length (now limits) ≡ 320) × (length (now own) ≡ 256) × Few 4294901760 (now limits) (now own) ⌝ }
-    ensures { λ _. ⌜ ColumnAdded x weight (now (limits .entry)) (now (limits .exit)) (now (own .entry)) (now (own .exit)) ⌝ }
-{
-    if x == 0 {
-        return;
-    }
-    tie(limits, taxa::rest(x), weight);
-    let first = taxa::lowest(x) as usize;
-    own[first] = own[first] + net::wide(weight);
-}
-
-// What ties each taxon of the group to the lower ones goes behind the limits; and what its own columns weigh, those that it is the lowest of.
-fn ties_of(
-    weights: &[u16],
-    joined: &[u64; 256],
-    group: u64,
-    m: usize,
-    limits: &mut [u32; 320],
-    own: &mut [u32; 256],
-)
-    requires { ⌜
-        (m ≤ 256)
-        × (m ≤ length (now weights))
-        × (length (now limits) ≡ 320)
-        × (length (now own) ≡ 256) ⌝ }
-    ensures { λ _. ⌜
-        Ties (now (weights .entry)) (now (joined .entry)) m group (now (limits .exit))
-        × Weighed (now (weights .entry)) (now (joined .entry)) m group (now (limits .exit)) (now (own .exit))
-        × SameLimits (now (limits .entry)) (now (limits .exit)) ⌝ }
-{
-    untied(limits);
-    push::unused(own, 64);
-    for c in 0..m {
-        tie_column(limits, own, taxa::common(joined[c], group), weights[c]);
-    }
-}
-
-// To part some taxon of the group but its lowest alone costs less than this.
-fn bound_of(planes: &[u64; 72], limits: &[u32; 320], own: &[u32; 256], group: u64) -> u32
-    requires { ⌜
-        Tabled (now planes)
-        × (1 < count 64 group)
-        × (length (now limits) ≡ 320)
-        × (length (now own) ≡ 256)
-        × ((u : ℕ) → has group u ≡ true → nth (now limits) (256 + u) + nth (now own) u ≤ 16776960) ⌝ }
-    ensures { λ r. ⌜ Loose (now (planes .entry)) (now (limits .entry)) (now (own .entry)) group r ⌝ }
-{
-    let mut bound: u32 = 4294967295;
-    let mut left = taxa::rest(group);
-    while 0 < left {
-        let i = taxa::lowest(left);
-        let u = i as usize;
-        let weight = limits[TIES + u] + own[u];
-        bound = taxa::least(bound, weight * taxa::multiplicity(planes, i) + 1);
-        left = taxa::rest(left);
-    }
-    bound
-}
-
 // The least cost so far, and the taxon that it was met at first; 64, while it is a bound that was not met.
 struct Best {
     cost: u32,
@@ -238,7 +148,7 @@ fn attempt(
     if !taxa::contains(group, u as u32) {
         return best;
     }
-    if best.cost <= limits[TIES + u] {
+    if best.cost <= limits[ties::TIES + u] {
         return best;
     }
     let cut = push::largest(
@@ -293,7 +203,7 @@ fn cheapest(
         × Kept (sizes m (nth (now (joined .entry)))) (now (ws .entry)) (now (ws .exit))
         × Spare (now (used .exit)) (now (tree .exit)) ⌝ }
 {
-    let bound = bound_of(planes, limits, used, group);
+    let bound = ties::bound_of(planes, limits, used, group);
     let mut best = Best {
         cost: bound,
         other: 64,
@@ -440,7 +350,7 @@ pub fn divide(
             other: taxa::lowest(off) as usize,
         };
     }
-    ties_of(weights, joined, group, m, limits, used);
+    ties::ties_of(weights, joined, group, m, limits, used);
     by_flows(
         weights,
         planes,

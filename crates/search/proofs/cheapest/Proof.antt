@@ -10,7 +10,7 @@ use Rattle.search.specs.Workspace.{Kept}
 use Rattle.search.specs.Network.{nth, Spare}
 use Rattle.search.specs.Trying.{Trying}
 use Rattle.search.proofs.Workspace.{kept-none, kept-then}
-use Rattle.search.proofs.Ties.{weighs-small}
+use Rattle.search.proofs.Bonds.{weighs-small}
 use Rattle.search.proofs.Trying.{trying-start, trying-end}
 use Rattle.search.proofs.cheapest.Statement.{statement}
 use Rattle.search.proofs.cheapest.Tie as tie

@@ -16,7 +16,7 @@ use Rattle.search.specs.Workspace.{Kept}
 use Rattle.search.specs.Network.{nth, Net, Spare, Lent}
 use Rattle.search.specs.Trying.{Limits}
 use Rattle.search.proofs.Workspace.{cleared-kept, kept-then}
-use Rattle.search.proofs.Ties.{limits-still}
+use Rattle.search.proofs.Bonds.{limits-still}
 use Rattle.search.proofs.Group.{source-is, net, arcs-are, divided-free}
 use Rattle.search.proofs.divide.Statement.{statement}
 use Rattle.search.proofs.divide.Tie as tie

@@ -1,9 +1,9 @@
--- `search::tie_column` meets its contract: the column joins nobody, or all but its lowest taxon are tied.
+-- `ties::tie_column` meets its contract: the column joins nobody, or all but its lowest taxon are tied.
 use borrow.Author.Needs.{needs}
 use native.Mathlib.Omega.{arith}
-use Rattle.search.proofs.Ties.{column-none, column-added}
-use Rattle.search.proofs.tie_column.Statement.{statement}
-use Rattle.search.proofs.tie_column.Tie as tie
+use Rattle.search.proofs.Bonds.{column-none, column-added}
+use Rattle.search.proofs.ties.tie_column.Statement.{statement}
+use Rattle.search.proofs.ties.tie_column.Tie as tie
 
 abbrev begun : tie.After-tie → tie.Start
 begun c = c .before .before .before .before

@@ -1,12 +1,12 @@
--- `search::ties_of` meets its contract. The invariant: what the columns passed tie, each at most 65,535.
+-- `ties::ties_of` meets its contract. The invariant: what the columns passed tie, each at most 65,535.
 use borrow.Author.Needs.{needs}
 use native.Mathlib.Omega.{arith}
 use mathlib.Core.Path.{_≡_, refl}
 use Prim.Native.Nat.{_*_, _-_, _≤_}
 use Rattle.search.specs.Trying.{Ties, Weighed, Few, SameLimits}
-use Rattle.search.proofs.Ties.{few-next, few-more, few-none, same-then, ties-start, weighed-start, ties-next, weighed-next}
-use Rattle.search.proofs.ties_of.Statement.{statement}
-use Rattle.search.proofs.ties_of.Tie as tie
+use Rattle.search.proofs.Bonds.{few-next, few-more, few-none, same-then, ties-start, weighed-start, ties-next, weighed-next}
+use Rattle.search.proofs.ties.ties_of.Statement.{statement}
+use Rattle.search.proofs.ties.ties_of.Tie as tie
 
 abbrev Inv-loop : tie.InvT-loop
 Inv-loop weights joined group m limits₀ own₀ c₀ limits own c =

@@ -1,4 +1,4 @@
--- `search::tie` meets its contract. The invariant: the taxa passed are tied.
+-- `ties::tie` meets its contract. The invariant: the taxa passed are tied.
 use borrow.Author.Needs.{needs}
 use native.Mathlib.Omega.{arith}
 use mathlib.Core.Bool.{true}
@@ -7,9 +7,9 @@ use Prim.Native.Nat.{ℕ, _+_, _^_}
 use Rattle.taxa.specs.Sets.{has, _⊆_, _∖_}
 use Rattle.taxa.proofs.Members.{⊆-refl, in-remove}
 use Rattle.search.specs.Network.{nth}
-use Rattle.search.proofs.Ties.{AddedBut, but-start, but-was, but-one, but-end}
-use Rattle.search.proofs.tie.Statement.{statement}
-use Rattle.search.proofs.tie.Tie as tie
+use Rattle.search.proofs.Bonds.{AddedBut, but-start, but-was, but-one, but-end}
+use Rattle.search.proofs.ties.tie.Statement.{statement}
+use Rattle.search.proofs.ties.tie.Tie as tie
 
 abbrev Inv-loop : tie.InvT-loop
 Inv-loop limits₀ x weight left₀ limits left = (left ⊆ x) × AddedBut x left weight limits₀ limits

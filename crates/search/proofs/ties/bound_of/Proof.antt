@@ -1,4 +1,4 @@
--- `search::bound_of` meets its contract. The invariant: to part one taxon alone costs less than the bound.
+-- `ties::bound_of` meets its contract. The invariant: to part one taxon alone costs less than the bound.
 use borrow.Author.Needs.{needs}
 use native.Mathlib.Omega.{arith}
 use mathlib.Core.Path.{_≡_, sym, ap, ap₂, _∙_}
@@ -6,9 +6,9 @@ use Prim.Native.Nat.{ℕ, _+_, _*_, _^_, _≤_}
 use Rattle.taxa.specs.Sets.{_∖_}
 use Rattle.taxa.proofs.Counts.{count-pos}
 use Rattle.search.specs.Network.{nth}
-use Rattle.search.proofs.Ties.{times-small, Binding, binding-start, binding-one}
-use Rattle.search.proofs.bound_of.Statement.{statement}
-use Rattle.search.proofs.bound_of.Tie as tie
+use Rattle.search.proofs.Bonds.{times-small, Binding, binding-start, binding-one}
+use Rattle.search.proofs.ties.bound_of.Statement.{statement}
+use Rattle.search.proofs.ties.bound_of.Tie as tie
 
 abbrev Inv-loop : tie.InvT-loop
 Inv-loop planes limits own group bound₀ left₀ bound left = Binding planes limits own group left bound

@@ -1,10 +1,10 @@
--- `search::untied` meets its contract. The invariant: the numbers passed are 0.
+-- `ties::untied` meets its contract. The invariant: the numbers passed are 0.
 use borrow.Author.Needs.{needs}
 use native.Mathlib.Omega.{arith}
 use Prim.Native.Nat.{_+_, _≤_, _-_}
-use Rattle.search.proofs.Ties.{Blank, blank-start, blank-one}
-use Rattle.search.proofs.untied.Statement.{statement}
-use Rattle.search.proofs.untied.Tie as tie
+use Rattle.search.proofs.Bonds.{Blank, blank-start, blank-one}
+use Rattle.search.proofs.ties.untied.Statement.{statement}
+use Rattle.search.proofs.ties.untied.Tie as tie
 
 abbrev Inv-loop : tie.InvT-loop
 Inv-loop limits₀ p₀ limits p = (256 ≤ p) × (p ≤ 320) × Blank limits₀ limits p
