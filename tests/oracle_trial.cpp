@@ -118,9 +118,10 @@ std::uint64_t weighed_flips(const Matrix& matrix, const Answer& answer) {
 
 // What is built reads back, is written back, its total is the weighed flips and its score no more; a tree's own matrix needs none.
 void build_case(Tally& tally, gen::Random& random) {
-    gen::Style style = gen::random_style(random);
-    const Matrix matrix = gen::random_matrix(random, static_cast<unsigned>(random.between(1, 24)),
-                                             static_cast<unsigned>(random.between(0, 40)), style);
+    const gen::Style style = gen::random_style(random);
+    const unsigned n = static_cast<unsigned>(random.between(1, 24));
+    const unsigned m = static_cast<unsigned>(random.between(0, 40));
+    const Matrix matrix = gen::random_matrix(random, n, m, style);
     const Bytes file = oracle::matrix_file(matrix);
     const Answer answer = oracle::answer_of(matrix);
     const Bytes written = oracle::answer_file(answer);

@@ -42,7 +42,8 @@ SplitCase split_case(Random& random) {
     const Matrix matrix = random_matrix(random);
     SplitCase made;
     made.file = matrix_file_of(random, matrix);
-    made.group = random.bits() & (random.chance(30) ? ~oracle::TaxonSet{0} : random.bits());
+    made.group = random.bits();
+    if (!random.chance(30)) made.group &= random.bits();
     if (random.chance(95)) made.group &= oracle::all_taxa(matrix.n);
     if (random.chance(30) || (oracle::size(made.group) < 2 && random.chance(80))) made.group = oracle::all_taxa(matrix.n);
     made.workspace = workspace_for(random, matrix);

@@ -51,7 +51,8 @@ std::vector<TaxonSet> random_pattern(Random& random, unsigned n, Shape shape) {
 Column block_entries(Random& random, unsigned n, TaxonSet block) {
     const TaxonSet held = random_set(random, n, 85);
     if (random.chance(85)) return Column{0, block & held, all_taxa(n) & ~block};
-    const TaxonSet few = random_set(random, n, 5) | oracle::only(static_cast<unsigned>(random.below(n)));
+    TaxonSet few = random_set(random, n, 5);
+    few |= oracle::only(static_cast<unsigned>(random.below(n)));
     return Column{0, held & ~few, few};
 }
 

@@ -1,4 +1,4 @@
-// Random choices that are the same on every machine for one seed.
+// Random choices that are the same on every machine for one seed, if no statement makes two whose order the compiler may choose.
 #pragma once
 
 #include <cstdint>
