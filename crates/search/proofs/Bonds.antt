@@ -19,7 +19,7 @@ use Rattle.taxa.proofs.Members.{all-<, in-all, in-pos, out, in∩, ∩-≤, in-
 use Rattle.taxa.proofs.Counts.{count-pos, count-remove}
 use Rattle.taxa.proofs.Planes.{in-small}
 use Rattle.method.proofs.Carry.{same?}
-use Rattle.search.specs.Network.{nth, Unused}
+use Rattle.search.specs.Network.{nth, flowMost, weightMost, Unused}
 use Rattle.search.specs.Trying.{Limits, tie, ties, weighs, Ties, Weighed, Few, SameLimits, ColumnAdded, Added, Loose}
 use Rattle.search.proofs.Reaching.{gone-one, still-in}
 
@@ -221,12 +221,12 @@ module _ {W J : List ℕ} {c S : ℕ} {L L′ B B′ : List ℕ} (f : S < 2 ^ 64
 some-rest : {S r : ℕ} → S < 2 ^ 64 → 1 < count 64 S → r ≡ S ∖ 2 ^ low 64 S → 0 < r
 some-rest {S} f two q = let s = low-in 64 (count-pos 64 (omega arith)) f in rw q (count-pos 64 (omega (arith, count-remove 64 (below 64 f s) s)))
 
--- "127 x 256 x 65,535"
-pub weighs-small : {W J L B : List ℕ} {m S : ℕ} → m ≤ 256 → ((c : ℕ) → c < m → nth W c < 65536) → Weighed W J m S L B → (u : ℕ) → has S u ≡ true → nth L (256 + u) + nth B u ≤ 16776960
+-- What joins a taxon weighs no more than all columns, and times a multiplicity no more than any flow.
+pub weighs-small : {W J L B : List ℕ} {m S : ℕ} → m ≤ 256 → ((c : ℕ) → c < m → nth W c < 65536) → Weighed W J m S L B → (u : ℕ) → has S u ≡ true → nth L (256 + u) + nth B u ≤ weightMost
 weighs-small {W} {J} {m = m} few light t u h =
     omega (arith, t .weighs-at u h, sum-bound m 65535 {g = λ c. cond (has (nth J c) u) (nth W c) 0} (λ c b. omega (arith, cond-most (has (nth J c) u) (nth W c), light c b)))
 
-pub times-small : (P : List ℕ) {x : ℕ} (u : ℕ) → x ≤ 16776960 → x * multiplicityIn P u ≤ 2130673920
+pub times-small : (P : List ℕ) {x : ℕ} (u : ℕ) → x ≤ weightMost → x * multiplicityIn P u ≤ flowMost
 times-small P u l = omega (arith, mul-le-mul-right (multiplicityIn P u) l, in-small P u)
 
 -- The taxa of l lie ahead, and to part one alone costs less than k.
@@ -235,7 +235,7 @@ pub record Binding (P L B : List ℕ) (S l k : ℕ) : Type 0 where
   pub loose : Loose P L B S k
 
 module _ {P L B : List ℕ} {S : ℕ} where
-  pub binding-start : {r : ℕ} → S < 2 ^ 64 → 1 < count 64 S → ((u : ℕ) → has S u ≡ true → nth L (256 + u) + nth B u ≤ 16776960) → r ≡ S ∖ 2 ^ low 64 S → r < 2 ^ 64 → Binding P L B S r 4294967295
+  pub binding-start : {r : ℕ} → S < 2 ^ 64 → 1 < count 64 S → ((u : ℕ) → has S u ≡ true → nth L (256 + u) + nth B u ≤ weightMost) → r ≡ S ∖ 2 ^ low 64 S → r < 2 ^ 64 → Binding P L B S r 4294967295
   binding-start {r} f two small q fr = record { inside = held; loose = record { taxon = u; inside = held u h .0; not-lowest = held u h .1; less = omega (arith, times-small P u (small u (held u h .0))) } }
     where
       held : (u : ℕ) → has r u ≡ true → (has S u ≡ true) × (u ≢ low 64 S)

@@ -27,6 +27,10 @@ arcMost = 8322945
 abbrev pub flowMost : ℕ
 flowMost = 2130673920
 
+-- The most that 256 columns weigh.
+abbrev pub weightMost : ℕ
+weightMost = 16776960
+
 -- What runs at most between column c and taxon i, either way.
 unfoldable pub caps : List ℕ → List ℕ → List ℕ → ℕ → ℕ → ℕ
 caps W P J c i = cond (has (nth J c) i) (arc W P c i) 0

@@ -45,6 +45,10 @@ pub record Weighed (W J : List ℕ) (m S : ℕ) (L B : List ℕ) : Type 0 where
   pub long : length B ≡ 256
   pub weighs-at : (u : ℕ) → has S u ≡ true → nth L (256 + u) + nth B u ≡ weighs W J m u
 
+-- The most that a sum may be for one weight more to fit 32 bits.
+abbrev pub sumMost : ℕ
+sumMost = 4294901760
+
 -- No number of either is above k.
 pub record Few (k : ℕ) (L B : List ℕ) : Type 0 where
   pub ties-few : (u : ℕ) → u < 64 → nth L (256 + u) ≤ k

@@ -108,7 +108,7 @@ fn connected(
     )
 }
 
-// The least cost so far, and the taxon that it was met at first; 64, while it is a bound that was not met.
+// The least cost so far, and the taxon that it was met at first; `NOBODY`, while it is a bound that was not met.
 struct Best {
     cost: u32,
     other: usize,
@@ -206,7 +206,7 @@ fn cheapest(
     let bound = ties::bound_of(planes, limits, used, group);
     let mut best = Best {
         cost: bound,
-        other: 64,
+        other: reach::NOBODY,
     };
     let s = taxa::lowest(group) as usize;
     for u in s + 1..n {
@@ -290,7 +290,7 @@ fn by_flows(
         tree,
         s,
         t,
-        4294967295,
+        reach::UNBOUNDED,
     );
     Split {
         cost: cut.size,

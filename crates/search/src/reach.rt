@@ -11,6 +11,12 @@ ghost use Rattle.search.specs.Network as network;
 ghost use Rattle.search.specs.Network.{nth, Ready};
 ghost use Rattle.search.specs.Reaching.{turnOf, IsGate, Rooted, Leads, Offered, Passed, Crossed, Missed, Swept, Planted, Found};
 
+// In place of a taxon: none.
+pub const NOBODY: usize = 64;
+
+// More than any hop or flow carries.
+pub const UNBOUNDED: u32 = 4294967295;
+
 fn greatest(x: u32, y: u32) -> u32
     ensures { λ r. ⌜ r ≡ max x y ⌝ }
 {
@@ -104,7 +110,7 @@ fn offer(tree: &mut [u32; 256], met: u64, j: usize, i: usize, c: usize, stamp: u
     taxa::union(met, taxa::single(j as u32))
 }
 
-// Of the taxa of x, which column c joins, one whose hop leads wherever a hop of any of them leads; 64 if none leads anywhere. A taxon that sends is such
+// Of the taxa of x, which column c joins, one whose hop leads wherever a hop of any of them leads; `NOBODY` if none leads anywhere. A taxon that sends is such
 // a one if it turns flow back or the column has room; where none of those does, any that sends.
 fn sender(
     weights: &[u16],
@@ -123,7 +129,7 @@ fn sender(
     ensures { λ r. ⌜ Leads (now (weights .entry)) (now (planes .entry)) (now (joined .entry)) (now (limits .entry)) n (now (ws .entry)) c x r ⌝ }
 {
     let column = net::column_at(joined, offsets, c);
-    let mut found: usize = 64;
+    let mut found = NOBODY;
     let mut left = x;
     while 0 < left {
         let i = taxa::lowest(left) as usize;
@@ -232,7 +238,7 @@ fn pass(
         c,
         here,
     );
-    if i == 64 {
+    if i == NOBODY {
         return met;
     }
     through(
@@ -315,7 +321,7 @@ fn plant(tree: &mut [u32; 256], sources: u64)
     while 0 < left {
         let x = taxa::lowest(left) as usize;
         tree[4 * x + 2] = 0;
-        tree[4 * x + 3] = 4294967295;
+        tree[4 * x + 3] = UNBOUNDED;
         left = taxa::rest(left);
     }
 }

@@ -2,13 +2,14 @@
 // behind the limits of 256 columns what ties each of 64 taxa, and in a list that no flow uses yet what each taxon's own columns weigh, those that it is the lowest of.
 use crate::net;
 use crate::push;
+use crate::reach;
 ghost use mathlib.Core.Path.{_≡_};
 ghost use mathlib.Core.Bool.{true};
 ghost use Prim.Native.Nat.{ℕ, _+_, _≤_, _<_};
 ghost use lib.ListN.{length};
 ghost use Rattle.taxa.specs.Sets.{has, count, Tabled};
-ghost use Rattle.search.specs.Network.{nth};
-ghost use Rattle.search.specs.Trying.{Ties, Weighed, Few, SameLimits, ColumnAdded, Added, Loose};
+ghost use Rattle.search.specs.Network.{nth, weightMost};
+ghost use Rattle.search.specs.Trying.{Ties, Weighed, sumMost, Few, SameLimits, ColumnAdded, Added, Loose};
 
 // Where the ties start, and where they end.
 pub const TIES: usize = 256;
@@ -29,7 +30,7 @@ fn untied(limits: &mut [u32; 320])
 
 // The taxa of x are tied by a weight.
 fn tie(limits: &mut [u32; 320], x: u64, weight: u16)
-    requires { ⌜ (length (now limits) ≡ 320) × ((u : ℕ) → u < 64 → nth (now limits) (256 + u) ≤ 4294901760) ⌝ }
+    requires { ⌜ (length (now limits) ≡ 320) × ((u : ℕ) → u < 64 → nth (now limits) (256 + u) ≤ sumMost) ⌝ }
     ensures { λ _. ⌜ Added x weight (now (limits .entry)) (now (limits .exit)) ⌝ }
 {
     let mut left = x;
@@ -42,7 +43,7 @@ fn tie(limits: &mut [u32; 320], x: u64, weight: u16)
 
 // A column that joins x ties all its taxa but the lowest to that, and is the lowest's own.
 fn tie_column(limits: &mut [u32; 320], own: &mut [u32; 256], x: u64, weight: u16)
-    requires { ⌜ (length (now limits) ≡ 320) × (length (now own) ≡ 256) × Few 4294901760 (now limits) (now own) ⌝ }
+    requires { ⌜ (length (now limits) ≡ 320) × (length (now own) ≡ 256) × Few sumMost (now limits) (now own) ⌝ }
     ensures { λ _. ⌜ ColumnAdded x weight (now (limits .entry)) (now (limits .exit)) (now (own .entry)) (now (own .exit)) ⌝ }
 {
     if x == 0 {
@@ -86,10 +87,10 @@ pub fn bound_of(planes: &[u64; 72], limits: &[u32; 320], own: &[u32; 256], group
         × (1 < count 64 group)
         × (length (now limits) ≡ 320)
         × (length (now own) ≡ 256)
-        × ((u : ℕ) → has group u ≡ true → nth (now limits) (256 + u) + nth (now own) u ≤ 16776960) ⌝ }
+        × ((u : ℕ) → has group u ≡ true → nth (now limits) (256 + u) + nth (now own) u ≤ weightMost) ⌝ }
     ensures { λ r. ⌜ Loose (now (planes .entry)) (now (limits .entry)) (now (own .entry)) group r ⌝ }
 {
-    let mut bound: u32 = 4294967295;
+    let mut bound = reach::UNBOUNDED;
     let mut left = taxa::rest(group);
     while 0 < left {
         let i = taxa::lowest(left);

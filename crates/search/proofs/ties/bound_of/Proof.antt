@@ -5,7 +5,7 @@ use mathlib.Core.Path.{_≡_, sym, ap, ap₂, _∙_}
 use Prim.Native.Nat.{ℕ, _+_, _*_, _^_, _≤_}
 use Rattle.taxa.specs.Sets.{_∖_}
 use Rattle.taxa.proofs.Counts.{count-pos}
-use Rattle.search.specs.Network.{nth}
+use Rattle.search.specs.Network.{nth, flowMost, weightMost}
 use Rattle.search.proofs.Bonds.{times-small, Binding, binding-start, binding-one}
 use Rattle.search.proofs.ties.bound_of.Statement.{statement}
 use Rattle.search.proofs.ties.bound_of.Tie as tie
@@ -28,13 +28,13 @@ begun c = c .before .before .before .before
 -- What joins it, and that times what it stands for.
 weight-small : (c : tie.After-lowest Inv-loop μ-loop) →
     let a = begun c .args in
-    nth (a .limits .now) (256 + c .lowest .result) + nth (a .own .now) (c .lowest .result) ≤ 16776960
+    nth (a .limits .now) (256 + c .lowest .result) + nth (a .own .now) (c .lowest .result) ≤ weightMost
 weight-small c = begun c .pre .4 (c .lowest .result) (c .before .before .loop .inv .inside (c .lowest .result) (c .lowest .ensures .2 .is) .0)
 
 product : (c : tie.After-multiplicity Inv-loop μ-loop) →
     let l = c .before .before .before in
     let a = begun l .args in
-    (nth (a .limits .now) (256 + l .lowest .result) + nth (a .own .now) (l .lowest .result)) * c .multiplicity .result ≤ 2130673920
+    (nth (a .limits .now) (256 + l .lowest .result) + nth (a .own .now) (l .lowest .result)) * c .multiplicity .result ≤ flowMost
 product c =
     let l = c .before .before .before in
     rw (c .multiplicity .ensures .0) (times-small (begun l .args .planes .now) (l .lowest .result) (weight-small l))
