@@ -9,14 +9,15 @@ use native.Mathlib.Omega.{arith}
 use lib.Dec.{eqb}
 use borrow.Author.Tests.{eqb-true, eqb-false, eq-eqb, ne-eqb}
 use Rattle.taxa.specs.Sum.{sum}
-use Rattle.taxa.specs.Sets.{_∈_, _∉_, _∩_, _∪_, _∖_, mass}
-use Rattle.taxa.proofs.Members.{none as nothing, in∩, in∖, in∪, empty, same-bool, ∩-⊆ʳ}
+use Rattle.taxa.specs.Sets.{_∈_, _∉_, _∩_, mass}
+use Rattle.taxa.proofs.Members.{none as nothing, in∩, empty, ∩-⊆ʳ}
 use Rattle.taxa.proofs.Masses.{mass-none}
 use Rattle.method.specs.Split.{Column, Same, raise, lower}
 use Rattle.method.specs.Tree.{Flips, made, flipsOf, flipList, weighedFlips, Line, end, and}
 use Rattle.method.proofs.Flips.{Proper, flips, weighed}
 use Rattle.method.proofs.Entries.{known, raise-same, lower-same, same-one, same-zero, same-trans, same-refl}
 use Rattle.method.proofs.Shape.{line-++}
+use Rattle.method.proofs.Choices.{listed-same}
 
 -- One column with its flips made.
 abbrev flipBy : Flips → Column → Column
@@ -113,59 +114,7 @@ module _ (old new : ℕ → Column) where
 
   -- ---- the flips made
 
-  -- Two columns that know the same taxa: the flips of the one to the other, made, give the other.
-  flip-made : (c : ℕ) → Proper (new c) → known (new c) ≡ known (old c) → (i : ℕ) → Same (flipBy (of c) (old c)) (new c) i
-  unfolding raise lower
-  flip-made c q e i = record { ones = same-bool ones-to ones-from; zeros = same-bool zeros-to zeros-from }
-    where
-      O : ℕ
-      O = old c .ones
-
-      Z : ℕ
-      Z = old c .zeros
-
-      R : ℕ
-      R = of c .raised
-
-      L : ℕ
-      L = of c .lowered
-
-      knows-new : i ∈ O ⊎ i ∈ Z → i ∈ new c .ones ⊎ i ∈ new c .zeros
-      knows-new h = in∪ (new c .ones) (new c .zeros) .0 (subst (λ (X : ℕ). i ∈ X) (sym e) (in∪ O Z .1 h))
-
-      knows-old : i ∈ new c .ones ⊎ i ∈ new c .zeros → i ∈ O ⊎ i ∈ Z
-      knows-old h = in∪ O Z .0 (subst (λ (X : ℕ). i ∈ X) e (in∪ (new c .ones) (new c .zeros) .1 h))
-
-      raised : i ∈ Z → i ∈ new c .ones → i ∈ Z ∩ R
-      raised z o = in∩ Z R .1 (z, in∩ Z (new c .ones) .1 (z, o))
-
-      lowered : i ∈ O → i ∈ new c .zeros → i ∈ L
-      lowered o z = in∩ O (new c .zeros) .1 (o, z)
-
-      one-now : i ∈ L → i ∉ new c .ones
-      one-now h o = q .clash o (in∩ O (new c .zeros) .0 h .1)
-
-      ones-to : i ∈ (O ∪ (Z ∩ R)) ∖ L → i ∈ new c .ones
-      ones-to h =
-          let (x, n) = in∖ (O ∪ (Z ∩ R)) L .0 h in
-          ⊎-elim (λ o. ⊎-elim (λ a. a) (λ a. absurd (n (lowered o a))) (knows-new (inl o))) (λ r. in∩ Z (new c .ones) .0 (in∩ Z R .0 r .1) .1) (in∪ O (Z ∩ R) .0 x)
-
-      ones-from : i ∈ new c .ones → i ∈ (O ∪ (Z ∩ R)) ∖ L
-      ones-from h = in∖ (O ∪ (Z ∩ R)) L .1 (in∪ O (Z ∩ R) .1 (⊎-elim inl (λ z. inr (raised z h)) (knows-old (inl h))), λ l. one-now l h)
-
-      zeros-to : i ∈ (Z ∖ R) ∪ ((O ∪ (Z ∩ R)) ∩ L) → i ∈ new c .zeros
-      zeros-to h =
-          ⊎-elim
-          (λ x. let (z, n) = in∖ Z R .0 x in ⊎-elim (λ a. absurd (n (in∩ Z R .0 (raised z a) .1))) (λ a. a) (knows-new (inr z)))
-          (λ x. in∩ O (new c .zeros) .0 (in∩ (O ∪ (Z ∩ R)) L .0 x .1) .1)
-          (in∪ (Z ∖ R) ((O ∪ (Z ∩ R)) ∩ L) .0 h)
-
-      zeros-from : i ∈ new c .zeros → i ∈ (Z ∖ R) ∪ ((O ∪ (Z ∩ R)) ∩ L)
-      zeros-from h =
-          in∪ (Z ∖ R) ((O ∪ (Z ∩ R)) ∩ L) .1
-          (⊎-elim (λ o. inr (in∩ (O ∪ (Z ∩ R)) L .1 (in∪ O (Z ∩ R) .1 (inl o), lowered o h))) (λ z. inl (in∖ Z R .1 (z, λ r. q .clash (in∩ Z (new c .ones) .0 r .1) h))) (knows-old (inr h)))
-
-  -- So the list, made on the one matrix, gives the other.
+  -- The list, made on the one matrix, gives the other, where both know the same entries.
   made-off : (m c : ℕ) → m ≤ c → made (flipList m old new) old c ≡ old c
   unfolding made flipList
   made-off zero c l = refl
@@ -173,21 +122,22 @@ module _ (old new : ℕ → Column) where
       ap (λ (x : ℕ → Column). x c) (made-++ (flipList m old new) (entry (of m)) old) ∙ entry-off (of m) (made (flipList m old new) old) c (ne-eqb c m (λ e. omega arith))
       ∙ made-off m c (omega arith)
 
-  pub flips-made : (m : ℕ) → ((c : ℕ) → Proper (new c)) → ((c : ℕ) → known (new c) ≡ known (old c)) → (c i : ℕ) → c < m → Same (made (flipList m old new) old c) (new c) i
+  pub flips-made : (m : ℕ) → ((c : ℕ) → Proper (old c)) → ((c : ℕ) → Proper (new c)) → ((c : ℕ) → known (new c) ≡ known (old c)) → (c i : ℕ) → c < m
+      → Same (made (flipList m old new) old c) (new c) i
   unfolding flipList
-  flips-made zero q e c i b = absurd (omega arith)
-  flips-made (suc m) q e c i b =
+  flips-made zero p q e c i b = absurd (omega arith)
+  flips-made (suc m) p q e c i b =
       subst (λ (x : ℕ → Column). Same (x c) (new c) i) (sym (made-++ (flipList m old new) (entry (of m)) old))
       (⊎-elim
       (λ h. subst (λ (a : ℕ). Same (made (entry (of m)) mid a) (new a) i) (sym h) last)
-      (λ h. subst (λ (x : Column). Same x (new c) i) (sym (entry-off (of m) mid c (ne-eqb c m (λ a. omega arith)))) (flips-made m q e c i h))
+      (λ h. subst (λ (x : Column). Same x (new c) i) (sym (entry-off (of m) mid c (ne-eqb c m (λ a. omega arith)))) (flips-made m p q e c i h))
       (eq-or-lt-of-le (le-of-suc-le-suc b)))
     where
       mid : ℕ → Column
       mid = made (flipList m old new) old
 
       last : Same (made (entry (of m)) mid m) (new m) i
-      last = same-trans (entry-at (of m) mid i) (subst (λ (x : Column). Same (flipBy (of m) x) (new m) i) (sym (made-off m m (omega arith))) (flip-made m (q m) (e m) i))
+      last = same-trans (entry-at (of m) mid i) (subst (λ (x : Column). Same (flipBy (of m) x) (new m) i) (sym (made-off m m (omega arith))) (listed-same (p m) (q m) (e m) i))
 
   -- The list weighs what the columns' flips do.
   module _ (k : ℕ) (μ : ℕ → ℕ) where

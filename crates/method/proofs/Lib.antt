@@ -32,6 +32,7 @@ pub mod Arcs
 -- Clades, trees that fit, and the answer.
 pub mod Filling
 pub mod Fitting
+pub mod Choices
 pub mod FlipList
 pub mod Promises
 pub mod Counted

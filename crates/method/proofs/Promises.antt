@@ -16,11 +16,12 @@ use Rattle.taxa.proofs.Masses.{mass-⊆, mass-all}
 use Rattle.taxa.proofs.Counts.{count-all, count-pos}
 use Rattle.method.specs.Split.{Column, Same, Rule, side, parted, divisionCost, splitCost, after, FlipsAt, splitParts}
 use Rattle.method.specs.Tree.{Group, Walk, walked, node, build, ordered, Line, InFileOrder, Flips, total, Matrix, column, answer, Sound, ComesTo, Components, made, weighedFlips, Clade, Filled, group, single, RootedTree, Fits}
+use Rattle.method.specs.Choices.{turnedBy, choiceWeight, Lets}
 use Rattle.method.specs.Flow.{Flow, arcs, limits, FlowSearch, SplitPromise}
 use Rattle.method.proofs.Flips.{Proper}
 use Rattle.method.proofs.Listing.{side-rule}
 use Rattle.method.proofs.Search.{split-promise}
-use Rattle.method.proofs.Entries.{known, same-sym, Heavy}
+use Rattle.method.proofs.Entries.{known, same-sym, same-trans, Heavy}
 use Rattle.method.proofs.Depth.{build-node}
 use Rattle.method.proofs.Walks.{cost-≤, build-tame, flips-total, total-bound}
 use Rattle.method.proofs.Shape.{shape-in, line-map, lined-pair, build-shape}
@@ -29,6 +30,7 @@ use Rattle.method.proofs.Fitting.{clades-laminar, fits-free, free-fits}
 use Rattle.method.proofs.Order.{build-length, ordered-in, in-ordered, ordered-length, ordered-total, ordered-first, group-low, file-order}
 use Rattle.method.proofs.Components.{split-components}
 use Rattle.method.proofs.Comes.{comes-fits, split-of, comes-listed, listed-comes, comes-one, flip-first, flip-once}
+use Rattle.method.proofs.Choices.{turned-same, changes, changes-choice, changes-weigh}
 use Rattle.method.proofs.FlipList.{Some, flips-are, flips-made, flips-rise, flips-none, flips-weigh}
 
 module _ (M : Matrix) (ok : Sound M) where
@@ -211,13 +213,29 @@ module _ (M : Matrix) (ok : Sound M) where
   -- The flips of the answer, made on the matrix, give the columns after the build.
   pub flips-are-made : (c i : ℕ) → c < m → Same (made (answer M .flips) file c) (walk .columns c) i
   unfolding answer
-  flips-are-made = let t = build-tame 64 μ m (ok .positive) file (all n) fits in flips-made file (walk .columns) m (t .propers proper) (t .knowns)
+  flips-are-made = let t = build-tame 64 μ m (ok .positive) file (all n) fits in flips-made file (walk .columns) m proper (t .propers proper) (t .knowns)
 
   -- After the flips each column can be filled so that its 1-set is empty or a clade: a group of the answer or a single taxon.
   pub answer-filled : (c : ℕ) → c < m → Filled (Clade (all n) (answer M .groups)) (all n) (made (answer M .flips) file c)
   answer-filled c b =
       let (F, d, r, f) = filled 64 μ m (ok .positive) file (all n) fits proper c b in
       (F, or-more (⊆-refl (all n)) (λ g l. in-walk l) d, r, fills-same (λ i x. same-sym (flips-are-made c i b)) f)
+
+  -- The flips of the answer are a choice of flips: it makes the columns that they make, weighs the total, and lets them be filled.
+  pub answer-choice : (chosen : ℕ → ℕ) × Lets 64 μ m file (Clade (all n) (answer M .groups)) (all n) chosen
+      × ((c i : ℕ) → c < m → Same (turnedBy chosen file c) (made (answer M .flips) file c) i) × (choiceWeight 64 μ m file chosen ≡ answer M .total)
+  answer-choice =
+      let t = build-tame 64 μ m (ok .positive) file (all n) fits in
+      let same : (c i : ℕ) → c < m → Same (turnedBy (changes m file (walk .columns)) file c) (made (answer M .flips) file c) i =
+      λ c i b. same-trans (turned-same (proper c) (t .propers proper c) (t .knowns c) i) (same-sym (flips-are-made c i b)) in (
+        changes m file (walk .columns),
+        record {
+          choice = changes-choice m file (walk .columns);
+          fits = λ c b. let (F, d, r, f) = answer-filled c b in (F, d, r, fills-same (λ i x. same-sym (same c i b)) f);
+        },
+        same,
+        changes-weigh m file (walk .columns) 64 μ proper ∙ flips-total 64 μ m (ok .positive) file (all n) fits proper ∙ sym all-costs,
+      )
 
   -- The clades are a rooted tree over the n taxa.
   pub answer-tree : RootedTree (all n) (Clade (all n) (answer M .groups))

@@ -1,0 +1,174 @@
+-- Choices of flips. To fill a column to F its 0s in F and its 1s outside F have to be flipped (`needed`), and no more (`enough`); columns are independent,
+-- so where each column has its best F, the sum of what these ask is the least weight of a choice (`least-weight`). The flips from one matrix to
+-- another that knows the same entries are a choice (`flips-chosen`).
+use mathlib.Core.Path.{_≡_, refl, sym, ap, ap₂, _∙_}
+use mathlib.Core.Bool.{Bool, true, false, _&&_, _||_, true≢false, false≢true}
+use mathlib.Core.Logic.{_⊎_, inl, inr, ⊎-elim}
+use Prim.Native.Nat.{ℕ, _+_, _*_, _≤_, _<_}
+use native.Mathlib.Nat.{mul-le-mul-left}
+use native.Mathlib.Omega.{arith}
+use Rattle.taxa.specs.Sum.{sum}
+use Rattle.taxa.specs.Sets.{has, _∈_, _⊆_, _∩_, _∪_, _∖_, mass}
+use Rattle.taxa.proofs.Sums.{sum-≡, sum-≤}
+use Rattle.taxa.proofs.Digits.{without, has-∩, has-∪, has-∖}
+use Rattle.taxa.proofs.Members.{in?, out, in∩, in∖, in∪, ∩-⊆, ∖-⊆}
+use Rattle.taxa.proofs.Masses.{mass-⊆, mass-∪}
+use Rattle.method.specs.Split.{Column, Same, raise, lower}
+use Rattle.method.specs.Tree.{Fills}
+use Rattle.method.specs.Choices.{Choice, turned, turnedBy, choiceWeight, Lets, LeastWeight}
+use Rattle.method.proofs.Flips.{Proper, flips, weighed}
+use Rattle.method.proofs.Entries.{known}
+
+-- ---- one column
+
+-- What stands in the way of filling a column to F: its 0s in F, and its 1s outside F.
+abbrev pub wrong : Column → ℕ → ℕ
+wrong c F = (c .zeros ∩ F) ∪ (c .ones ∖ F)
+
+module _ (c : Column) (F : ℕ) where
+  open Column c using (ones as o, zeros as z)
+
+  -- A wrong entry is a 0 in F or a 1 outside F.
+  wrong-is : {i : ℕ} → i ∈ wrong c F → (i ∈ z × i ∈ F) ⊎ (i ∈ o × (i ∈ F → ⊥))
+  wrong-is h = ⊎-elim (λ a. inl (in∩ z F .0 a)) (λ a. inr (in∖ o F .0 a)) (in∪ (z ∩ F) (o ∖ F) .0 h)
+
+  wrong-zero : {i : ℕ} → i ∈ z → i ∈ F → i ∈ wrong c F
+  wrong-zero a b = in∪ (z ∩ F) (o ∖ F) .1 (inl (in∩ z F .1 (a, b)))
+
+  wrong-one : {i : ℕ} → i ∈ o → (i ∈ F → ⊥) → i ∈ wrong c F
+  wrong-one a b = in∪ (z ∩ F) (o ∖ F) .1 (inr (in∖ o F .1 (a, b)))
+
+  pub wrong-known : wrong c F ⊆ known c
+  wrong-known = record { sub = λ h. in∪ o z .1 (⊎-elim (λ a. inr (a .0)) (λ a. inl (a .0)) (wrong-is h)) }
+
+  pub wrong-mass : (k : ℕ) (μ : ℕ → ℕ) → mass k μ (wrong c F) ≡ mass k μ (z ∩ F) + mass k μ (o ∖ F)
+  wrong-mass k μ = mass-∪ k μ (record { off = λ a b. in∖ o F .0 b .1 (in∩ z F .0 a .1) })
+
+  -- Whatever is flipped so that the column can be filled to F, the wrong entries are among it.
+  pub needed : {S X : ℕ} → o ⊆ S → F ⊆ S → Fills S (turned X c) F → wrong c F ⊆ X
+  unfolding turned
+  needed {S} {X} inside within f =
+      record { sub = λ {i} h. elim (in? i X) [ yes x ↦ x | no n ↦ absurd (⊎-elim (left n) (right n) (wrong-is h)) ] }
+    where
+      left : {i : ℕ} → (i ∈ X → ⊥) → i ∈ z × i ∈ F → ⊥
+      left n (a, b) = f .zeros (within .sub b) b (in∪ (z ∖ X) (o ∩ X) .1 (inl (in∖ z X .1 (a, n))))
+
+      right : {i : ℕ} → (i ∈ X → ⊥) → i ∈ o × (i ∈ F → ⊥) → ⊥
+      right n (a, b) = b (f .ones (inside .sub a) (in∪ (o ∖ X) (z ∩ X) .1 (inl (in∖ o X .1 (a, n)))))
+
+  -- And to flip them is enough.
+  pub enough : {S : ℕ} → Proper c → Fills S (turned (wrong c F) c) F
+  unfolding turned
+  enough p = record { ones = λ {i} x h. elim (in? i F) [ yes y ↦ y | no n ↦ absurd (off n h) ]; zeros = λ x y h. on y h }
+    where
+      W : ℕ
+      W = wrong c F
+
+      off : {i : ℕ} → (i ∈ F → ⊥) → i ∈ (o ∖ W) ∪ (z ∩ W) → ⊥
+      off n h =
+          ⊎-elim
+          (λ a. let (b, w) = in∖ o W .0 a in w (wrong-one b n))
+          (λ a. let (b, w) = in∩ z W .0 a in ⊎-elim (λ e. n (e .1)) (λ e. p .clash (e .0) b) (wrong-is w))
+          (in∪ (o ∖ W) (z ∩ W) .0 h)
+
+      on : {i : ℕ} → i ∈ F → i ∈ (z ∖ W) ∪ (o ∩ W) → ⊥
+      on y h =
+          ⊎-elim
+          (λ a. let (b, w) = in∖ z W .0 a in w (wrong-zero b y))
+          (λ a. let (b, w) = in∩ o W .0 a in ⊎-elim (λ e. p .clash b (e .0)) (λ e. e .1 y) (wrong-is w))
+          (in∪ (z ∖ W) (o ∩ W) .0 h)
+
+-- ---- the columns of a matrix
+
+module _ (k : ℕ) (μ : ℕ → ℕ) (m : ℕ) (cols : ℕ → Column) (clade : ℕ → Type 0) (X : ℕ) where
+  -- Nothing, or a clade; in X.
+  abbrev pub Goal : ℕ → Type 0
+  Goal F = (F ≡ 0 ⊎ clade F) × F ⊆ X
+
+  -- What it weighs to fill a column to F.
+  abbrev pub filling : ℕ → ℕ → ℕ
+  filling c F = cols c .weight * mass k μ (wrong (cols c) F)
+
+  -- "A choice of flips for one column does not touch another, so the least of the sum is the sum of the leasts."
+  pub least-weight : ((c : ℕ) → c < m → Proper (cols c)) → ((c : ℕ) → c < m → cols c .ones ⊆ X)
+      → (best : ℕ → ℕ) → ((c : ℕ) → c < m → Goal (best c)) → ((c : ℕ) → c < m → (F : ℕ) → Goal F → filling c (best c) ≤ filling c F)
+      → LeastWeight k μ m cols clade X (sum m (λ c. filling c (best c)))
+  unfolding choiceWeight
+  least-weight proper inside best goal least =
+      record {
+        best = λ c. wrong (cols c) (best c);
+        lets = record {
+          choice = record { known = λ c b. wrong-known (cols c) (best c) };
+          fits = λ c b. let (g, s) = goal c b in (best c, g, s, enough (cols c) (best c) (proper c b));
+        };
+        weighs = sum-≡ m (λ c b. refl);
+        least = λ chosen l. sum-≤ m (λ c b.
+            let (F, g, s, f) = l .fits c b in
+            omega (arith, least c b F (g, s), mul-le-mul-left (cols c .weight) (mass-⊆ k μ (needed (cols c) F (inside c b) s f))));
+      }
+
+-- ---- from one matrix to another
+
+-- An entry that is 1 (o), 0 (z) or neither, and what becomes of it (o′, z′). It is flipped where a 0 becomes 1 or a 1 becomes 0; the flips as a choice
+-- has them, or as a list has them, raised and lowered apart, make of it what it becomes.
+record Turns (o z o′ z′ : Bool) : Type 0 where
+  chosen-one : without o ((z && o′) || (o && z′)) || (z && ((z && o′) || (o && z′))) ≡ o′
+  chosen-zero : without z ((z && o′) || (o && z′)) || (o && ((z && o′) || (o && z′))) ≡ z′
+  listed-one : without (o || (z && (z && o′))) (o && z′) ≡ o′
+  listed-zero : without z (z && o′) || ((o || (z && (z && o′))) && (o && z′)) ≡ z′
+
+turns : (o z o′ z′ : Bool) → (o && z) ≡ false → (o′ && z′) ≡ false → (o′ || z′) ≡ (o || z) → Turns o z o′ z′
+turns true true o′ z′ p q e = absurd (true≢false p)
+turns true false true true p q e = absurd (true≢false q)
+turns true false true false p q e = record { chosen-one = refl; chosen-zero = refl; listed-one = refl; listed-zero = refl }
+turns true false false true p q e = record { chosen-one = refl; chosen-zero = refl; listed-one = refl; listed-zero = refl }
+turns true false false false p q e = absurd (false≢true e)
+turns false true true true p q e = absurd (true≢false q)
+turns false true true false p q e = record { chosen-one = refl; chosen-zero = refl; listed-one = refl; listed-zero = refl }
+turns false true false true p q e = record { chosen-one = refl; chosen-zero = refl; listed-one = refl; listed-zero = refl }
+turns false true false false p q e = absurd (false≢true e)
+turns false false true z′ p q e = absurd (true≢false e)
+turns false false false true p q e = absurd (true≢false e)
+turns false false false false p q e = record { chosen-one = refl; chosen-zero = refl; listed-one = refl; listed-zero = refl }
+
+-- The entries that two columns differ in.
+abbrev pub differing : Column → Column → ℕ
+differing c d = (c .zeros ∩ d .ones) ∪ (c .ones ∩ d .zeros)
+
+-- Of two columns that know the same entries.
+module _ {c d : Column} (p : Proper c) (q : Proper d) (same : known d ≡ known c) (i : ℕ) where
+  not-both : {x : Column} → Proper x → (has (x .ones) i && has (x .zeros) i) ≡ false
+  not-both {x} r = sym (has-∩ (x .ones) (x .zeros) i) ∙ out (λ h. let (a, b) = in∩ (x .ones) (x .zeros) .0 h in r .clash a b)
+
+  entries : Turns (has (c .ones) i) (has (c .zeros) i) (has (d .ones) i) (has (d .zeros) i)
+  entries = turns _ _ _ _ (not-both p) (not-both q) (sym (has-∪ (d .ones) (d .zeros) i) ∙ ap (λ (x : ℕ). has x i) same ∙ has-∪ (c .ones) (c .zeros) i)
+
+  pub turned-same : Same (turned (differing c d) c) d i
+  unfolding turned
+  turned-same = record { ones = simp (has-∪, has-∖, has-∩) (entries .chosen-one); zeros = simp (has-∪, has-∖, has-∩) (entries .chosen-zero) }
+
+  pub listed-same : Same (lower (c .ones ∩ d .zeros) (raise (c .zeros ∩ d .ones) c)) d i
+  unfolding raise lower
+  listed-same = record { ones = simp (has-∪, has-∖, has-∩) (entries .listed-one); zeros = simp (has-∪, has-∖, has-∩) (entries .listed-zero) }
+
+-- The flips from the columns old to the columns new are a choice, which weighs what they do.
+module _ (m : ℕ) (old new : ℕ → Column) where
+  abbrev pub changes : ℕ → ℕ
+  changes c = differing (old c) (new c)
+
+  pub changes-choice : Choice m old changes
+  changes-choice =
+      record {
+        known = λ c b. record {
+          sub = λ h. in∪ (old c .ones) (old c .zeros) .1
+              (⊎-elim (λ z. inr (∩-⊆ (old c .zeros) (new c .ones) .sub z)) (λ o. inl (∩-⊆ (old c .ones) (new c .zeros) .sub o))
+              (in∪ (old c .zeros ∩ new c .ones) (old c .ones ∩ new c .zeros) .0 h));
+        };
+      }
+
+  pub changes-weigh : (k : ℕ) (μ : ℕ → ℕ) → ((c : ℕ) → Proper (old c)) → choiceWeight k μ m old changes ≡ weighed k μ m old new
+  unfolding choiceWeight weighed flips
+  changes-weigh k μ p =
+      sum-≡ m (λ c b. ap (λ (x : ℕ). old c .weight * x) (mass-∪ k μ (record {
+        off = λ z o. p c .clash (∩-⊆ (old c .ones) (new c .zeros) .sub o) (∩-⊆ (old c .zeros) (new c .ones) .sub z);
+      })))
