@@ -1,7 +1,7 @@
 -- Choices of flips. To fill a column to F its 0s in F and its 1s outside F have to be flipped (`needed`), and no more (`enough`); columns are independent,
 -- so where each column has its best F, the sum of what these ask is the least weight of a choice (`least-weight`). The flips from one matrix to
 -- another that knows the same entries are a choice (`flips-chosen`).
-use mathlib.Core.Path.{_≡_, refl, sym, ap, ap₂, _∙_}
+use mathlib.Core.Path.{_≡_, refl, sym, ap, _∙_}
 use mathlib.Core.Bool.{Bool, true, false, _&&_, _||_, true≢false, false≢true}
 use mathlib.Core.Logic.{_⊎_, inl, inr, ⊎-elim}
 use Prim.Native.Nat.{ℕ, _+_, _*_, _≤_, _<_}
@@ -11,11 +11,11 @@ use Rattle.taxa.specs.Sum.{sum}
 use Rattle.taxa.specs.Sets.{has, _∈_, _⊆_, _∩_, _∪_, _∖_, mass}
 use Rattle.taxa.proofs.Sums.{sum-≡, sum-≤}
 use Rattle.taxa.proofs.Digits.{without, has-∩, has-∪, has-∖}
-use Rattle.taxa.proofs.Members.{in?, out, in∩, in∖, in∪, ∩-⊆, ∖-⊆}
+use Rattle.taxa.proofs.Members.{in?, out, in∩, in∖, in∪, ∩-⊆}
 use Rattle.taxa.proofs.Masses.{mass-⊆, mass-∪}
 use Rattle.method.specs.Split.{Column, Same, raise, lower}
 use Rattle.method.specs.Tree.{Fills}
-use Rattle.method.specs.Choices.{Choice, turned, turnedBy, choiceWeight, Lets, LeastWeight}
+use Rattle.method.specs.Choices.{Choice, turned, choiceWeight, LeastWeight}
 use Rattle.method.proofs.Flips.{Proper, flips, weighed}
 use Rattle.method.proofs.Entries.{known}
 

@@ -11,10 +11,10 @@ use Rattle.taxa.specs.Sets.{_∈_, _∉_, _⊆_, Disjoint, _∩_, _∖_, within
 use Rattle.taxa.specs.Groups.{NestedOrDisjoint}
 use Rattle.taxa.proofs.Groups.{pair-sym}
 use Rattle.taxa.proofs.Sums.{sum-none}
-use Rattle.taxa.proofs.Members.{none as nothing, in?, in∩, in∖, empty as all-out, ⊆-refl, ⊆-trans, ∩-⊆, ∩-⊆ʳ, within-⊆, pow-in, pow-⊆}
+use Rattle.taxa.proofs.Members.{none as nothing, in∩, in∖, empty as all-out, ⊆-refl, ⊆-trans, ∩-⊆, ∩-⊆ʳ, within-⊆}
 use Rattle.taxa.proofs.Masses.{mass-none}
 use Rattle.method.specs.Split.{Column, Same, share, Division, divisionCost, splitCost, after, splitParts}
-use Rattle.method.specs.Tree.{Group, Walk, walked, total, node, build, Clade, group, single, Fills, Laminar, Fits}
+use Rattle.method.specs.Tree.{Walk, walked, total, node, build, Clade, group, Fills, Laminar, Fits}
 use Rattle.method.proofs.Flips.{Proper}
 use Rattle.method.proofs.Parts.{Parts, done, next, inside-R}
 use Rattle.method.proofs.Listing.{side-best, alone}
@@ -23,7 +23,7 @@ use Rattle.method.proofs.Splits.{split-parts, part-in, after-weight, af
 use Rattle.method.proofs.Depth.{build-ind}
 use Rattle.method.proofs.Walks.{total-++, build-tame}
 use Rattle.method.proofs.Filling.{fills-same, fills-⊆, filled}
-use Rattle.method.proofs.Shape.{Lined, lined-pair}
+use Rattle.method.proofs.Clades.{single-in}
 
 -- ---- families that fit the columns in X: each column can be filled so that its 1s in X are those of a member
 
@@ -67,26 +67,6 @@ choose {family} {m} {X} {cols} f = record { pick = λ c. pick c (decLt c m); cla
     good : (c : ℕ) → c < m → (d : Dec (c < m)) → family (pick c d) × Fills X (cols c) (pick c d)
     good c b (yes b′) = let (F, g, h) = f c b′ in (g, h)
     good c b (no n) = absurd (n b)
-
--- ---- the single taxa and the groups are a rooted tree
-
--- A set has a taxon or shares nothing with it.
-single-in : (i Y : ℕ) → 2 ^ i ⊆ Y ⊎ Disjoint (2 ^ i) Y
-single-in i Y = elim (in? i Y) [ yes h ↦ inl (pow-⊆ h) | no n ↦ inr (record { off = λ x y. n (subst (λ (a : ℕ). a ∈ Y) (pow-in i x) y) }) ]
-
-pair-single : (i Y : ℕ) → NestedOrDisjoint (2 ^ i) Y
-pair-single i Y = ⊎-elim inl (λ o. inr (inr o)) (single-in i Y)
-
-pub clades-laminar : (k X : ℕ) {gs : List Group} → Lined k gs → Laminar (Clade X gs)
-clades-laminar k Z {gs} l = record { pair = go }
-  where
-    first : {X X′ Y : ℕ} → X ≡ X′ → NestedOrDisjoint X′ Y → NestedOrDisjoint X Y
-    first {Y = Y} e p = subst (λ (Z : ℕ). NestedOrDisjoint Z Y) (sym e) p
-
-    go : {X Y : ℕ} → Clade Z gs X → Clade Z gs Y → NestedOrDisjoint X Y
-    go {Y = Y} (single i b e) q = first e (pair-single i Y)
-    go {X = X} (group g x e) (single i b f) = pair-sym (first f (pair-single i X))
-    go (group g x e) (group h y f) = first e (pair-sym (first f (lined-pair k l y x)))
 
 -- ---- a fitting family has a division that costs nothing
 

@@ -31,6 +31,7 @@ pub mod Comes
 pub mod Arcs
 -- Clades, trees that fit, and the answer.
 pub mod Filling
+pub mod Clades
 pub mod Fitting
 pub mod Choices
 pub mod FlipList

@@ -11,9 +11,9 @@ use Rattle.taxa.specs.Sets.{_∈_, _⊆_, Disjoint, _∩_, mass, count, low, al
 use Rattle.taxa.specs.Groups.{NestedOrDisjoint}
 use Rattle.taxa.proofs.Groups.{before-differ}
 use Rattle.taxa.proofs.Sums.{term-≤}
-use Rattle.taxa.proofs.Members.{none, below, low-≤, in-all, all-<, all-fits, ∩-⊆, ∪-⊆, ⊆-trans, ⊆-refl, in-pow, pow-⊆, in-pos}
+use Rattle.taxa.proofs.Members.{none, below, low-≤, in-all, all-<, all-fits, ∩-⊆, ∪-⊆, ⊆-trans, ⊆-refl}
 use Rattle.taxa.proofs.Masses.{mass-⊆, mass-all}
-use Rattle.taxa.proofs.Counts.{count-all, count-pos}
+use Rattle.taxa.proofs.Counts.{count-all}
 use Rattle.method.specs.Split.{Column, Same, Rule, side, parted, divisionCost, splitCost, after, FlipsAt, splitParts}
 use Rattle.method.specs.Tree.{Group, Walk, walked, node, build, ordered, Line, InFileOrder, Flips, total, Matrix, column, answer, Sound, ComesTo, Components, made, weighedFlips, Clade, Filled, group, single, RootedTree, Fits}
 use Rattle.method.specs.Choices.{turnedBy, choiceWeight, Lets}
@@ -25,8 +25,9 @@ use Rattle.method.proofs.Entries.{known, same-sym, same-trans, Heavy}
 use Rattle.method.proofs.Depth.{build-node}
 use Rattle.method.proofs.Walks.{cost-≤, build-tame, flips-total, total-bound}
 use Rattle.method.proofs.Shape.{shape-in, line-map, lined-pair, build-shape}
-use Rattle.method.proofs.Filling.{fills-same, clade-more, or-more, filled}
-use Rattle.method.proofs.Fitting.{clades-laminar, fits-free, free-fits}
+use Rattle.method.proofs.Filling.{fills-same, or-more, filled}
+use Rattle.method.proofs.Clades.{clades-tree}
+use Rattle.method.proofs.Fitting.{fits-free, free-fits}
 use Rattle.method.proofs.Order.{build-length, ordered-in, in-ordered, ordered-length, ordered-total, ordered-first, group-low, file-order}
 use Rattle.method.proofs.Components.{split-components}
 use Rattle.method.proofs.Comes.{comes-fits, split-of, comes-listed, listed-comes, comes-one, flip-first, flip-once}
@@ -240,26 +241,13 @@ module _ (M : Matrix) (ok : Sound M) where
   -- The clades are a rooted tree over the n taxa.
   pub answer-tree : RootedTree (all n) (Clade (all n) (answer M .groups))
   answer-tree =
-      record {
-        root = elim (decLt 1 n) [ yes two ↦ top two | no one ↦ let e : n ≡ 1 = omega (arith, ok .some) in single 0 (in-all n (ok .some)) (ap all e) ];
-        leaf = λ {i} x. single i x refl;
-        some = some;
-        inside = inside;
-        laminar = record {
-          pair = λ x y. clades-laminar 64 (all n) (build-shape 64 μ m file (all n) fits .lined) .pair (clade-more (⊆-refl (all n)) (λ g l. walk-in l) x) (clade-more (⊆-refl (all n)) (λ g l. walk-in l) y);
-        };
-      }
-    where
-      top : 1 < n → Clade (all n) (answer M .groups) (all n)
-      top two = let (rest, e) = groups-first two in group (split-of 64 μ m file (all n)) (subst (λ (gs : List Group). List·Memᴰ (split-of 64 μ m file (all n)) gs) (sym e) (List·Memᴰ·head refl)) refl
-
-      some : {Y : ℕ} → Clade (all n) (answer M .groups) Y → 0 < Y
-      some (group g l e) = omega (arith, e, count-pos 64 {x = g .taxa} (omega (arith, groups-hold l .1)))
-      some (single i x e) = omega (arith, e, in-pos (in-pow i))
-
-      inside : {Y : ℕ} → Clade (all n) (answer M .groups) Y → Y ⊆ all n
-      inside (group g l e) = subst (λ (Y : ℕ). Y ⊆ all n) (sym e) (groups-hold l .0)
-      inside (single i x e) = subst (λ (Y : ℕ). Y ⊆ all n) (sym e) (pow-⊆ x)
+      clades-tree (record {
+        some = ok .some;
+        whole = λ two. let (rest, e) = groups-first two in (split-of 64 μ m file (all n), rw e (List·Memᴰ·head refl), refl);
+        two = λ l. groups-hold l .1;
+        inside = λ l. groups-hold l .0;
+        nested = groups-nested;
+      })
 
   -- The flip list is empty where some rooted tree fits the unflipped matrix, and only there: then the answer's does.
   no-cost : answer M .flips ≡ [] → total (walk .groups) ≡ 0

@@ -1,6 +1,6 @@
 -- What a column scores is its distance to a node or to nothing (`score-distance`), and no node is nearer, nor is nothing (`none-nearer`): "to nothing costs
 -- all of its 1s, which a leaf on one of them undercuts, and is free where there is none".
-use mathlib.Core.Path.{_≡_, sym, ap, _∙_}
+use mathlib.Core.Path.{_≡_, sym}
 use mathlib.Core.Bool.{cond}
 use mathlib.Core.Logic.{_⊎_, inl, inr}
 use Prim.Native.Nat.{ℕ, _+_, _*_, _^_, _≤_, _<_}
@@ -9,7 +9,7 @@ use native.Mathlib.Decide.{ℕ-discrete}
 use native.Mathlib.Omega.{arith}
 use lib.Dec.{eqb}
 use borrow.Author.Tests.{eq-eqb, ne-eqb}
-use Rattle.taxa.specs.Sets.{_∈_, _∩_, _∖_, Disjoint, mass, low}
+use Rattle.taxa.specs.Sets.{_∈_, _∩_, _∖_, Disjoint, low}
 use Rattle.taxa.proofs.Members.{none, in∩, in∖, pow-in, low-in, empty}
 use Rattle.taxa.proofs.Masses.{mass-none, mass-⊆}
 use Rattle.matrix.specs.declared.Column.{Column}
