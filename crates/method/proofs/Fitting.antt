@@ -14,7 +14,7 @@ use Rattle.taxa.proofs.Sums.{sum-none}
 use Rattle.taxa.proofs.Members.{none as nothing, in∩, in∖, empty as all-out, ⊆-refl, ⊆-trans, ∩-⊆, ∩-⊆ʳ, within-⊆}
 use Rattle.taxa.proofs.Masses.{mass-none}
 use Rattle.method.specs.Split.{Column, Same, share, Division, divisionCost, splitCost, after, splitParts}
-use Rattle.method.specs.Tree.{Walk, walked, total, node, build, Clade, group, Fills, Laminar, Fits}
+use Rattle.method.specs.Tree.{Walk, walked, total, node, build, Clade, Fills, Laminar, Fits}
 use Rattle.method.proofs.Flips.{Proper}
 use Rattle.method.proofs.Parts.{Parts, done, next, inside-R}
 use Rattle.method.proofs.Listing.{side-best, alone}
