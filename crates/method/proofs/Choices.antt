@@ -1,6 +1,6 @@
 -- Choices of flips. To fill a column to F its 0s in F and its 1s outside F have to be flipped (`needed`), and no more (`enough`); columns are independent,
 -- so where each column has its best F, the sum of what these ask is the least weight of a choice (`least-weight`). The flips from one matrix to
--- another that knows the same entries are a choice (`flips-chosen`).
+-- another that knows the same entries are a choice (`changes-choice`), which makes the other of the one (`turned-same`) and weighs what they do (`changes-weigh`).
 use mathlib.Core.Path.{_≡_, refl, sym, ap, _∙_}
 use mathlib.Core.Bool.{Bool, true, false, _&&_, _||_, true≢false, false≢true}
 use mathlib.Core.Logic.{_⊎_, inl, inr, ⊎-elim}
@@ -80,19 +80,19 @@ module _ (c : Column) (F : ℕ) where
 
 -- ---- the columns of a matrix
 
+-- What a column may be filled to: nothing or a clade, in X.
+abbrev pub Goal : (ℕ → Type 0) → ℕ → ℕ → Type 0
+Goal clade X F = (F ≡ 0 ⊎ clade F) × F ⊆ X
+
+-- What it weighs to fill a column to F.
+abbrev pub filling : ℕ → (ℕ → ℕ) → Column → ℕ → ℕ
+filling k μ c F = c .weight * mass k μ (wrong c F)
+
 module _ (k : ℕ) (μ : ℕ → ℕ) (m : ℕ) (cols : ℕ → Column) (clade : ℕ → Type 0) (X : ℕ) where
-  -- Nothing, or a clade; in X.
-  abbrev pub Goal : ℕ → Type 0
-  Goal F = (F ≡ 0 ⊎ clade F) × F ⊆ X
-
-  -- What it weighs to fill a column to F.
-  abbrev pub filling : ℕ → ℕ → ℕ
-  filling c F = cols c .weight * mass k μ (wrong (cols c) F)
-
   -- "A choice of flips for one column does not touch another, so the least of the sum is the sum of the leasts."
   pub least-weight : ((c : ℕ) → c < m → Proper (cols c)) → ((c : ℕ) → c < m → cols c .ones ⊆ X)
-      → (best : ℕ → ℕ) → ((c : ℕ) → c < m → Goal (best c)) → ((c : ℕ) → c < m → (F : ℕ) → Goal F → filling c (best c) ≤ filling c F)
-      → LeastWeight k μ m cols clade X (sum m (λ c. filling c (best c)))
+      → (best : ℕ → ℕ) → ((c : ℕ) → c < m → Goal clade X (best c)) → ((c F : ℕ) → c < m → Goal clade X F → filling k μ (cols c) (best c) ≤ filling k μ (cols c) F)
+      → LeastWeight k μ m cols clade X (sum m (λ c. filling k μ (cols c) (best c)))
   unfolding choiceWeight
   least-weight proper inside best goal least =
       record {
@@ -101,10 +101,10 @@ module _ (k : ℕ) (μ : ℕ → ℕ) (m : ℕ) (cols : ℕ → Column) (clade :
           choice = record { known = λ c b. wrong-known (cols c) (best c) };
           fits = λ c b. let (g, s) = goal c b in (best c, g, s, enough (cols c) (best c) (proper c b));
         };
-        weighs = sum-≡ m (λ c b. refl);
+        weighs = refl;
         least = λ chosen l. sum-≤ m (λ c b.
             let (F, g, s, f) = l .fits c b in
-            omega (arith, least c b F (g, s), mul-le-mul-left (cols c .weight) (mass-⊆ k μ (needed (cols c) F (inside c b) s f))));
+            omega (arith, least c F b (g, s), mul-le-mul-left (cols c .weight) (mass-⊆ k μ (needed (cols c) F (inside c b) s f))));
       }
 
 -- ---- from one matrix to another

@@ -16,7 +16,7 @@ use Rattle.taxa.proofs.Masses.{mass-⊆, mass-all}
 use Rattle.taxa.proofs.Counts.{count-all}
 use Rattle.method.specs.Split.{Column, Same, Rule, side, parted, divisionCost, splitCost, after, FlipsAt, splitParts}
 use Rattle.method.specs.Tree.{Group, Walk, walked, node, build, ordered, Line, InFileOrder, Flips, total, Matrix, column, answer, Sound, ComesTo, Components, made, weighedFlips, Clade, Filled, group, single, RootedTree, Fits}
-use Rattle.method.specs.Choices.{turnedBy, choiceWeight, Lets}
+use Rattle.method.specs.Choices.{turnedBy, choiceWeight, LetsFill}
 use Rattle.method.specs.Flow.{Flow, arcs, limits, FlowSearch, SplitPromise}
 use Rattle.method.proofs.Flips.{Proper}
 use Rattle.method.proofs.Listing.{side-rule}
@@ -223,7 +223,7 @@ module _ (M : Matrix) (ok : Sound M) where
       (F, or-more (⊆-refl (all n)) (λ g l. in-walk l) d, r, fills-same (λ i x. same-sym (flips-are-made c i b)) f)
 
   -- The flips of the answer are a choice of flips: it makes the columns that they make, weighs the total, and lets them be filled.
-  pub answer-choice : (chosen : ℕ → ℕ) × Lets 64 μ m file (Clade (all n) (answer M .groups)) (all n) chosen
+  pub answer-choice : (chosen : ℕ → ℕ) × LetsFill 64 μ m file (Clade (all n) (answer M .groups)) (all n) chosen
       × ((c i : ℕ) → c < m → Same (turnedBy chosen file c) (made (answer M .flips) file c) i) × (choiceWeight 64 μ m file chosen ≡ answer M .total)
   answer-choice =
       let t = build-tame 64 μ m (ok .positive) file (all n) fits in

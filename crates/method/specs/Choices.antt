@@ -25,13 +25,13 @@ module _ (k : ℕ) (μ : ℕ → ℕ) (m : ℕ) (cols : ℕ → Column) where
   choiceWeight chosen = sum m (λ c. cols c .weight * mass k μ (chosen c))
 
   -- After the flips of a choice the unknowns can be filled so that each column's 1-set in X is empty or a clade.
-  pub record Lets (clade : ℕ → Type 0) (X : ℕ) (chosen : ℕ → ℕ) : Type 0 where
+  pub record LetsFill (clade : ℕ → Type 0) (X : ℕ) (chosen : ℕ → ℕ) : Type 0 where
     pub choice : Choice m cols chosen
     pub fits : Fits clade m X (turnedBy chosen cols)
 
   -- w is the least weight of such a choice: one weighs that much, and none weighs less.
   pub record LeastWeight (clade : ℕ → Type 0) (X w : ℕ) : Type 0 where
     pub best : ℕ → ℕ
-    pub lets : Lets clade X best
+    pub lets : LetsFill clade X best
     pub weighs : choiceWeight best ≡ w
-    pub least : (chosen : ℕ → ℕ) → Lets clade X chosen → w ≤ choiceWeight chosen
+    pub least : (chosen : ℕ → ℕ) → LetsFill clade X chosen → w ≤ choiceWeight chosen

@@ -8,6 +8,7 @@ pub mod OneAnswer
 pub mod Entries
 pub mod Tree
 pub mod Score
+pub mod Least
 pub mod Unmerged
 pub mod Specimens
 pub mod PassingOn

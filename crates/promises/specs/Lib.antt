@@ -1,4 +1,5 @@
 -- What people hold, and the specimens.
 pub mod Held
+pub mod Pairs
 pub mod Lent
 pub mod Specimens

@@ -2,8 +2,10 @@
 -- (`kept-next`), file order as two loops meet it (`ordered-next`), and the flip list one column further (`list-next`).
 use mathlib.Core.Path.{_≡_, refl, ap, _∙_, subst}
 use mathlib.Core.Bool.{Bool, true, false, cond}
-use mathlib.Core.List.{List, [], _∷_, _++_, map, map-append, List·Memᴰ, List·Memᴰ·head, List·Memᴰ·tail}
+use mathlib.Core.Logic.{⊎-elim}
+use mathlib.Core.List.{List, [], _∷_, _++_, map, map-append, List·Memᴰ, List·Memᴰ·head, List·Memᴰ·tail, List·Memᴰ·not-nil, List·Memᴰ·eq-of-singleton, List·Memᴰ·append-cases, Memᴰ·append-left, Memᴰ·append-right}
 use Prim.Native.Nat.{ℕ, zero, suc, _+_, _≤_, _<_}
+use native.Mathlib.Nat.{eq-or-lt-of-le, le-of-suc-le-suc}
 use native.Mathlib.Numerals.{add-one}
 use native.Mathlib.Decide.{le-ind}
 use native.Mathlib.Omega.{arith}
@@ -33,6 +35,25 @@ pub length-groups : (ts cs : List ℕ) (k : ℕ) → length (firstGroups ts cs k
 unfolding firstGroups
 length-groups ts cs zero = refl
 length-groups ts cs (suc k) = length-append (firstGroups ts cs k) _ ∙ omega (arith, length-groups ts cs k)
+
+-- Its groups are those of the first k places.
+pub group-at : (ts cs : List ℕ) (k i : ℕ) → i < k → List·Memᴰ (record { taxa = getD ts i 0; cost = getD cs i 0 }) (firstGroups ts cs k)
+unfolding firstGroups
+group-at ts cs zero i l = absurd (omega arith)
+group-at ts cs (suc k) i l =
+    ⊎-elim
+    (λ e. Memᴰ·append-right (firstGroups ts cs k) (List·Memᴰ·head (ap (λ (j : ℕ). record { taxa = getD ts j 0; cost = getD cs j 0 }) e)))
+    (λ b. Memᴰ·append-left _ (group-at ts cs k i b))
+    (eq-or-lt-of-le (le-of-suc-le-suc l))
+
+pub place-of : (ts cs : List ℕ) (k : ℕ) {g : Group} → List·Memᴰ g (firstGroups ts cs k) → (i : ℕ) × (i < k) × (g .taxa ≡ getD ts i 0)
+unfolding firstGroups
+place-of ts cs zero l = absurd (List·Memᴰ·not-nil l)
+place-of ts cs (suc k) l =
+    ⊎-elim
+    (λ h. let (i, b, e) = place-of ts cs k h in (i, omega arith, e))
+    (λ h. (k, omega arith, ap (λ (g : Group). g .taxa) (List·Memᴰ·eq-of-singleton h)))
+    (List·Memᴰ·append-cases (firstGroups ts cs k) l)
 
 -- Stores past the first k change none of them.
 past-groups : (ts cs : List ℕ) (at g c k : ℕ) → k ≤ at → firstGroups (set ts at g) (set cs at c) k ≡ firstGroups ts cs k
