@@ -1,4 +1,4 @@
-// Compares flipcut_score, called as C calls it, with the independent score.
+// Compares flipcut_score, called as C calls it, with the independent score, and small pairs with every choice of flips.
 //   score_trial FOLDER [COUNT]
 #include "flipcut.h"
 #include "gen/cases.h"
@@ -6,6 +6,7 @@
 #include "gen/matrices.h"
 #include "lent.h"
 #include "oracle/build.h"
+#include "oracle/choices.h"
 #include "oracle/score.h"
 #include "specimens.h"
 #include "tally.h"
@@ -94,6 +95,42 @@ bool compare(Tally& tally, const ScoreCase& given) {
     return !expected.refusal.refused();
 }
 
+// How many small pairs were compared with every choice of flips.
+struct Listed {
+    unsigned long pairs = 0;
+    unsigned long whole = 0;    // also with every choice over the whole matrix at once
+    unsigned long flipped = 0;  // those that need flips
+    unsigned long built = 0;    // a matrix and its own build
+};
+
+// With so many known entries or fewer, every choice over the whole matrix is listed: 2 to the so many.
+constexpr std::size_t most_known = 14;
+
+// What document 02's C-23 says of the score: it is the least weight of flips, over all choices of flips, that lets
+// every column be filled to a clade of the tree or to nothing; and a built tree's is at most the total.
+void compare_choices(Listed& listed, Tally& tally, const gen::SmallScoreCase& small) {
+    const ScoreCase given{oracle::matrix_file(small.matrix), oracle::answer_file(small.answer)};
+    if (!compare(tally, given)) tally.differ("a small pair is refused", both(given));
+    const ScoreOutcome found = unpacked(called(given));
+    const std::uint64_t score = found.raises + found.lowers;
+    const auto hold = [&](bool holds, const char* what, std::uint64_t other) {
+        if (!holds) tally.differ(text(found) + ", " + what + " " + std::to_string(other), both(given));
+    };
+    const std::uint64_t by_columns = oracle::least_by_columns(small.matrix, small.answer.value);
+    hold(score == by_columns, "least of every choice, column by column", by_columns);
+    if (oracle::known_count(small.matrix) <= most_known) {
+        const std::uint64_t by_matrix = oracle::least_by_matrix(small.matrix, small.answer.value);
+        hold(score == by_matrix, "least of every choice over the whole matrix", by_matrix);
+        ++listed.whole;
+    }
+    if (small.built) {
+        hold(score <= small.answer.value.total, "a built tree of total", small.answer.value.total);
+        ++listed.built;
+    }
+    if (score > 0) ++listed.flipped;
+    ++listed.pairs;
+}
+
 // A specimen with its own answer.
 ScoreCase specimen_case(std::size_t which) {
     const std::size_t large = 1 << 16;
@@ -147,8 +184,14 @@ int main(int argc, char** argv) {
         const ScoreCase given = gen::score_case(random);
         if (compare(tally, given)) compare_columns(columns, tally, given);
     }
+    gen::Random small_random(8);
+    Listed listed;
+    while (listed.pairs < words.count / 2) compare_choices(listed, tally, gen::small_score_case(small_random));
     tally.finish({0, 1, 2, 3, 4, 5, 6, 7, 8, 12, 13, 14, 15, 21});
     std::printf("score: %lu columns one by one, %lu of them without a 1\n", columns.with_a_one + columns.without,
                 columns.without);
+    std::printf("score: %lu small pairs against every choice of flips, %lu of them over the whole matrix at once; "
+                "%lu need flips, %lu are built trees, none above its total\n",
+                listed.pairs, listed.whole, listed.flipped, listed.built);
     return 0;
 }

@@ -106,4 +106,19 @@ ScoreCase score_case(Random& random) {
     return {matrix_file_of(random, matrix), maybe_damaged(random, oracle::answer_file(answer))};
 }
 
+// Small matrices mostly fit a tree as they are. So in most of these each entry is by itself and few are unknown.
+SmallScoreCase small_score_case(Random& random) {
+    const bool unfit = random.chance(60);
+    const unsigned n = static_cast<unsigned>(random.between(unfit ? 4 : 1, 6));
+    const unsigned m = static_cast<unsigned>(random.between(unfit ? 2 : 0, 6));
+    Style style = random_style(random);
+    if (unfit) style.shape = Shape::free, style.known_percent = 80;
+    SmallScoreCase made;
+    made.matrix = random_matrix(random, n, m, style);
+    if (random.chance(20)) take_ones_out(random, made.matrix);
+    made.built = random.chance(40);
+    made.answer = made.built ? oracle::answer_of(made.matrix) : random_answer(random, n, m);
+    return made;
+}
+
 }  // namespace gen

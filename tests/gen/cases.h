@@ -5,6 +5,7 @@
 #include <vector>
 
 #include "../oracle/answer.h"
+#include "../oracle/matrix.h"
 #include "../oracle/records.h"
 #include "random.h"
 
@@ -38,10 +39,18 @@ struct ScoreCase {
     oracle::Bytes answer;
 };
 
+// A pair that is taken, small enough to list every choice of flips.
+struct SmallScoreCase {
+    oracle::Matrix matrix;
+    oracle::Answer answer;
+    bool built;  // the answer is the matrix's own
+};
+
 SplitCase split_case(Random& random);
 BuildCase build_case(Random& random);
 ReadCase read_case(Random& random);
 WriteCase write_case(Random& random);
 ScoreCase score_case(Random& random);
+SmallScoreCase small_score_case(Random& random);
 
 }  // namespace gen
