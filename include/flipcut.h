@@ -29,7 +29,8 @@ uint64_t flipcut_check(const uint8_t *file, size_t len);
 
 /* Scores the tree of an answer file against a matrix file. Refusals: the matrix's (1 to 8, 21), then the
  * answer's (1 to 4, 6, 8, 12 to 14, the place in the answer), then 15. Success: flipcut_raises,
- * flipcut_lowers; the score is their sum. A column without a 1 scores nothing. */
+ * flipcut_lowers; the score is their sum, the least weight of flips that lets every column be filled to a
+ * clade of the tree or to nothing. For a tree that the build wrote it is at most the answer's total. */
 uint64_t flipcut_score(const uint8_t *matrix, size_t matrix_len, const uint8_t *answer, size_t answer_len);
 
 #ifdef __cplusplus

@@ -17,19 +17,19 @@ use Rattle.record.proofs.Steps.{either-way}
 use Rattle.matrix.specs.declared.Column as matrix
 use Rattle.matrix.specs.Matrix.{LegalColumn, columnIn, matrixOf}
 use Rattle.matrix.proofs.Taken.{taken-column}
-use Rattle.answer.specs.Content.{Content, contentIn}
+use Rattle.answer.specs.Content.{Content, contentIn, lengthOf}
 use Rattle.answer.specs.Lawful.{Lawful}
 use Rattle.answer.proofs.Accepted.{taken-lawful}
 use Rattle.answer.proofs.Encoding.{file-taken}
 use Rattle.method.specs.Split.{Column, Same}
-use Rattle.method.specs.Tree.{Matrix, answer, made, group, single, RootedTree}
+use Rattle.method.specs.Tree.{Matrix, Sound, answer, made, group, single, RootedTree}
 use Rattle.method.specs.Choices.{turnedBy, choiceWeight, LetsFill}
 use Rattle.method.proofs.Clades.{clades-tree}
 use Rattle.method.proofs.Choices.{wrong, Goal, filling, wrong-mass, least-weight}
 use Rattle.method.proofs.Promises as method
 use Rattle.split.specs.Columns.{columnOf, matrixIn}
 use Rattle.split.proofs.Loading.{file-column}
-use Rattle.split.proofs.Soundness.{taken-count, taken-known, few-taxa, taken-sound}
+use Rattle.split.proofs.Soundness.{taken-count, taken-known, taken-sound}
 use Rattle.tree.specs.Build.{contentFor}
 use Rattle.tree.proofs.Lists.{group-at, place-of}
 use Rattle.score.specs.declared.Scored.{Scored}
@@ -100,7 +100,10 @@ module _ {file answerFile : List ℕ} (f : File file) (g : File answerFile) (p :
       let d = columnOf (columnIn file c) in
       ap (λ (x : Column). x .weight * mass 64 μ (wrong x F)) (file-column file b) ∙ ap (λ (x : ℕ). d .weight * x) (wrong-mass d F 64 μ)
 
-  -- What the check has seen of a column.
+  -- What the check has seen of the matrix, and of a column.
+  whole : Sound M
+  whole = taken-sound f (p .accepted .taken)
+
   legal : (c : ℕ) → c < m → LegalColumn (M .taxa) (columnIn file c)
   legal c b = taken-column f (p .accepted .taken) c (omega (arith, taken-count f (p .accepted .taken)))
 
@@ -108,11 +111,11 @@ module _ {file answerFile : List ℕ} (f : File file) (g : File answerFile) (p :
     returns : returned r .number ≡ 0
     returns = scored-exactly x .1 p
 
-    node : ℕ → ℕ
+    abbrev node : ℕ → ℕ
     node c = nodeIn μ answerFile (columnIn file c)
 
     -- What each column is brought to: a clade, or nothing.
-    best : ℕ → ℕ
+    abbrev best : ℕ → ℕ
     best c = goal μ (columnIn file c) (node c)
 
     goals : (c : ℕ) → Goal (cladesIn answerFile M) (known M) (best c)
@@ -125,7 +128,7 @@ module _ {file answerFile : List ℕ} (f : File file) (g : File answerFile) (p :
     nearest c F b at =
         let l = legal c b in
         none-nearer μ (columnIn file c) (column-node f x returns c) (∩-disjoint (l .apart))
-        (omega (arith, ⊆-≤ (l .ones-known), all-fits 64 (few-taxa f (p .accepted .taken)), taken-known f (p .accepted .taken)))
+        (omega (arith, ⊆-≤ (l .ones-known), all-fits 64 (whole .few)))
         (λ i one. at-leaf i (omega (arith, same-taxa, below (M .taxa) (all-< (M .taxa)) (l .ones-known .sub one))))
         F (⊎-elim inl (λ clade. inr (clade-node clade)) at)
 
@@ -141,16 +144,15 @@ module _ {file answerFile : List ℕ} (f : File file) (g : File answerFile) (p :
 
     pub score-is-least : (returned r .number ≡ 0) × LeastFlips file answerFile (returned r .raises + returned r .lowers)
     unfolding matrixOf
-    score-is-least =
-        let whole = taken-sound f (p .accepted .taken) in (
-          returns,
-          rw adds-up (least-weight 64 μ m (columnsOf M) (cladesIn answerFile M) (known M)
-              (λ c b. record { clash = whole .proper c b .off })
-              (whole .ones-in)
-              best
-              (λ c b. goals c)
-              (λ c F b (at, inside). omega (arith, filling-distance c (best c) b, filling-distance c F b, nearest c F b at))),
-        )
+    score-is-least = (
+      returns,
+      rw adds-up (least-weight 64 μ m (columnsOf M) (cladesIn answerFile M) (known M)
+          (λ c b. record { clash = whole .proper c b .off })
+          (whole .ones-in)
+          best
+          (λ c b. goals c)
+          (λ c F b (at, inside). omega (arith, filling-distance c (best c) b, filling-distance c F b, nearest c F b at))),
+    )
 
 -- ---- "the built tree's score is at most the total"
 
@@ -166,7 +168,7 @@ module _ {file answerFile : List ℕ} (f : File file) (b : Leaves file answerFil
       record {
         n = n;
         m = m;
-        accepted = record { taken = taken; here = _; passes = rw (leaves-file b) (file-taken (lawful f b)) };
+        accepted = record { taken = taken; here = record { at = lengthOf (contentFor built) }; passes = rw (leaves-file b) (file-taken (lawful f b)) };
         same-n = ap (λ (c : Content). c .n) (answer-content f b) ∙ taken-known f taken;
         same-m = ap (λ (c : Content). c .m) (answer-content f b) ∙ taken-count f taken;
       }

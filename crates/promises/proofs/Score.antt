@@ -87,7 +87,7 @@ module _ {matrix answer : List ℕ} (f : File matrix) {r : Scored} (x : Scores m
   it : Agree matrix answer r
   it = agreeing x none
 
-  pair : AcceptedPair matrix answer
+  abbrev pair : AcceptedPair matrix answer
   pair = it .pair
 
   taken : checks.Taken (pair .n) (pair .m) ≡ checked matrix
