@@ -2,13 +2,13 @@
 -- so where each column has its best F, the sum of what these ask is the least weight of a choice (`least-weight`). The flips from one matrix to
 -- another that knows the same entries are a choice (`changes-choice`), which makes the other of the one (`turned-same`) and weighs what they do (`changes-weigh`).
 use mathlib.Core.Path.{_≡_, refl, sym, ap, _∙_}
-use mathlib.Core.Bool.{Bool, true, false, _&&_, _||_, true≢false, false≢true}
+use mathlib.Core.Bool.{Bool, true, false, _&&_, _||_, cond, true≢false, false≢true}
 use mathlib.Core.Logic.{_⊎_, inl, inr, ⊎-elim}
 use Prim.Native.Nat.{ℕ, _+_, _*_, _≤_, _<_}
 use native.Mathlib.Nat.{mul-le-mul-left}
 use native.Mathlib.Omega.{arith}
 use Rattle.taxa.specs.Sum.{sum}
-use Rattle.taxa.specs.Sets.{has, _∈_, _⊆_, _∩_, _∪_, _∖_, mass}
+use Rattle.taxa.specs.Sets.{has, _∈_, _∉_, _⊆_, _∩_, _∪_, _∖_, mass}
 use Rattle.taxa.proofs.Sums.{sum-≡, sum-≤}
 use Rattle.taxa.proofs.Digits.{without, has-∩, has-∪, has-∖}
 use Rattle.taxa.proofs.Members.{in?, out, in∩, in∖, in∪, ∩-⊆}
@@ -17,7 +17,39 @@ use Rattle.method.specs.Split.{Column, Same, raise, lower}
 use Rattle.method.specs.Tree.{Fills}
 use Rattle.method.specs.Choices.{Choice, turned, choiceWeight, LeastWeight}
 use Rattle.method.proofs.Flips.{Proper, flips, weighed}
-use Rattle.method.proofs.Entries.{known}
+use Rattle.method.proofs.Entries.{known, same-sym, same-one, same-zero}
+
+-- ---- what flips make of an entry
+
+-- The two sides of `turned`: what is flipped takes the other's place.
+swapped : (x a b : Bool) → (without a x || (b && x)) ≡ cond x b a
+swapped true true true = refl
+swapped true true false = refl
+swapped true false true = refl
+swapped true false false = refl
+swapped false true true = refl
+swapped false true false = refl
+swapped false false true = refl
+swapped false false false = refl
+
+module _ (X : ℕ) (c : Column) (i : ℕ) where
+  turned-ones : has (turned X c .ones) i ≡ cond (has X i) (has (c .zeros) i) (has (c .ones) i)
+  unfolding turned
+  turned-ones = simp (has-∪, has-∖, has-∩) (swapped (has X i) (has (c .ones) i) (has (c .zeros) i))
+
+  turned-zeros : has (turned X c .zeros) i ≡ cond (has X i) (has (c .ones) i) (has (c .zeros) i)
+  unfolding turned
+  turned-zeros = simp (has-∪, has-∖, has-∩) (swapped (has X i) (has (c .zeros) i) (has (c .ones) i))
+
+  -- Off X it is as it was; on X a 1 was a 0, and a 0 was a 1.
+  turned-off : i ∉ X → Same (turned X c) c i
+  turned-off n = record { ones = rw (turned-ones, out n); zeros = rw (turned-zeros, out n) }
+
+  was-zero : i ∈ X → i ∈ turned X c .ones → i ∈ c .zeros
+  was-zero x h = record { is = rw (turned-ones, x .is) at (h .is) }
+
+  was-one : i ∈ X → i ∈ turned X c .zeros → i ∈ c .ones
+  was-one x h = record { is = rw (turned-zeros, x .is) at (h .is) }
 
 -- ---- one column
 
@@ -29,13 +61,13 @@ module _ (c : Column) (F : ℕ) where
   open Column c using (ones as o, zeros as z)
 
   -- A wrong entry is a 0 in F or a 1 outside F.
-  wrong-is : {i : ℕ} → i ∈ wrong c F → (i ∈ z × i ∈ F) ⊎ (i ∈ o × (i ∈ F → ⊥))
+  wrong-is : {i : ℕ} → i ∈ wrong c F → (i ∈ z × i ∈ F) ⊎ (i ∈ o × i ∉ F)
   wrong-is h = ⊎-elim (λ a. inl (in∩ z F .0 a)) (λ a. inr (in∖ o F .0 a)) (in∪ (z ∩ F) (o ∖ F) .0 h)
 
   wrong-zero : {i : ℕ} → i ∈ z → i ∈ F → i ∈ wrong c F
   wrong-zero a b = in∪ (z ∩ F) (o ∖ F) .1 (inl (in∩ z F .1 (a, b)))
 
-  wrong-one : {i : ℕ} → i ∈ o → (i ∈ F → ⊥) → i ∈ wrong c F
+  wrong-one : {i : ℕ} → i ∈ o → i ∉ F → i ∈ wrong c F
   wrong-one a b = in∪ (z ∩ F) (o ∖ F) .1 (inr (in∖ o F .1 (a, b)))
 
   pub wrong-known : wrong c F ⊆ known c
@@ -46,37 +78,29 @@ module _ (c : Column) (F : ℕ) where
 
   -- Whatever is flipped so that the column can be filled to F, the wrong entries are among it.
   pub needed : {S X : ℕ} → o ⊆ S → F ⊆ S → Fills S (turned X c) F → wrong c F ⊆ X
-  unfolding turned
   needed {S} {X} inside within f =
-      record { sub = λ {i} h. elim (in? i X) [ yes x ↦ x | no n ↦ absurd (⊎-elim (left n) (right n) (wrong-is h)) ] }
+      record { sub = λ {i} h. elim (in? i X) [ yes x ↦ x | no n ↦ absurd (⊎-elim (left i n) (right i n) (wrong-is h)) ] }
     where
-      left : {i : ℕ} → (i ∈ X → ⊥) → i ∈ z × i ∈ F → ⊥
-      left n (a, b) = f .zeros (within .sub b) b (in∪ (z ∖ X) (o ∩ X) .1 (inl (in∖ z X .1 (a, n))))
+      left : (i : ℕ) → i ∉ X → i ∈ z × i ∈ F → ⊥
+      left i n (a, b) = f .zeros (within .sub b) b (same-zero (turned-off X c i n) a)
 
-      right : {i : ℕ} → (i ∈ X → ⊥) → i ∈ o × (i ∈ F → ⊥) → ⊥
-      right n (a, b) = b (f .ones (inside .sub a) (in∪ (o ∖ X) (z ∩ X) .1 (inl (in∖ o X .1 (a, n)))))
+      right : (i : ℕ) → i ∉ X → i ∈ o × i ∉ F → ⊥
+      right i n (a, b) = b (f .ones (inside .sub a) (same-one (turned-off X c i n) a))
 
   -- And to flip them is enough.
   pub enough : {S : ℕ} → Proper c → Fills S (turned (wrong c F) c) F
-  unfolding turned
-  enough p = record { ones = λ {i} x h. elim (in? i F) [ yes y ↦ y | no n ↦ absurd (off n h) ]; zeros = λ x y h. on y h }
+  enough p = record { ones = λ {i} x h. elim (in? i F) [ yes y ↦ y | no n ↦ absurd (off i n h (in? i W)) ]; zeros = λ {i} x y h. on i y h (in? i W) }
     where
       W : ℕ
       W = wrong c F
 
-      off : {i : ℕ} → (i ∈ F → ⊥) → i ∈ (o ∖ W) ∪ (z ∩ W) → ⊥
-      off n h =
-          ⊎-elim
-          (λ a. let (b, w) = in∖ o W .0 a in w (wrong-one b n))
-          (λ a. let (b, w) = in∩ z W .0 a in ⊎-elim (λ e. n (e .1)) (λ e. p .clash (e .0) b) (wrong-is w))
-          (in∪ (o ∖ W) (z ∩ W) .0 h)
+      off : (i : ℕ) → i ∉ F → i ∈ turned W c .ones → Dec (i ∈ W) → ⊥
+      off i n h (yes w) = ⊎-elim (λ e. n (e .1)) (λ e. p .clash (e .0) (was-zero W c i w h)) (wrong-is w)
+      off i n h (no k) = k (wrong-one (same-one (same-sym (turned-off W c i k)) h) n)
 
-      on : {i : ℕ} → i ∈ F → i ∈ (z ∖ W) ∪ (o ∩ W) → ⊥
-      on y h =
-          ⊎-elim
-          (λ a. let (b, w) = in∖ z W .0 a in w (wrong-zero b y))
-          (λ a. let (b, w) = in∩ o W .0 a in ⊎-elim (λ e. p .clash b (e .0)) (λ e. e .1 y) (wrong-is w))
-          (in∪ (z ∖ W) (o ∩ W) .0 h)
+      on : (i : ℕ) → i ∈ F → i ∈ turned W c .zeros → Dec (i ∈ W) → ⊥
+      on i y h (yes w) = ⊎-elim (λ e. p .clash (was-one W c i w h) (e .0)) (λ e. e .1 y) (wrong-is w)
+      on i y h (no k) = k (wrong-zero (same-zero (same-sym (turned-off W c i k)) h) y)
 
 -- ---- the columns of a matrix
 
@@ -112,8 +136,8 @@ module _ (k : ℕ) (μ : ℕ → ℕ) (m : ℕ) (cols : ℕ → Column) (clade :
 -- An entry that is 1 (o), 0 (z) or neither, and what becomes of it (o′, z′). It is flipped where a 0 becomes 1 or a 1 becomes 0; the flips as a choice
 -- has them, or as a list has them, raised and lowered apart, make of it what it becomes.
 record Turns (o z o′ z′ : Bool) : Type 0 where
-  chosen-one : without o ((z && o′) || (o && z′)) || (z && ((z && o′) || (o && z′))) ≡ o′
-  chosen-zero : without z ((z && o′) || (o && z′)) || (o && ((z && o′) || (o && z′))) ≡ z′
+  chosen-one : cond ((z && o′) || (o && z′)) z o ≡ o′
+  chosen-zero : cond ((z && o′) || (o && z′)) o z ≡ z′
   listed-one : without (o || (z && (z && o′))) (o && z′) ≡ o′
   listed-zero : without z (z && o′) || ((o || (z && (z && o′))) && (o && z′)) ≡ z′
 
@@ -144,8 +168,10 @@ module _ {c d : Column} (p : Proper c) (q : Proper d) (same : known d ≡ known 
   entries = turns _ _ _ _ (not-both p) (not-both q) (sym (has-∪ (d .ones) (d .zeros) i) ∙ ap (λ (x : ℕ). has x i) same ∙ has-∪ (c .ones) (c .zeros) i)
 
   pub turned-same : Same (turned (differing c d) c) d i
-  unfolding turned
-  turned-same = record { ones = simp (has-∪, has-∖, has-∩) (entries .chosen-one); zeros = simp (has-∪, has-∖, has-∩) (entries .chosen-zero) }
+  turned-same = record {
+    ones = turned-ones (differing c d) c i ∙ simp (has-∪, has-∩) (entries .chosen-one);
+    zeros = turned-zeros (differing c d) c i ∙ simp (has-∪, has-∩) (entries .chosen-zero);
+  }
 
   pub listed-same : Same (lower (c .ones ∩ d .zeros) (raise (c .zeros ∩ d .ones) c)) d i
   unfolding raise lower
