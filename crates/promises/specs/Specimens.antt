@@ -2,12 +2,9 @@
 use mathlib.Core.List.{List, [], _∷_, _++_}
 use Prim.Native.Nat.{ℕ}
 use lib.ListN.{take, replicate}
-use Rattle.taxa.specs.Sum.{sum}
-use Rattle.matrix.specs.Matrix.{columnIn}
 use Rattle.matrix.specs.Check as matrix
 use Rattle.split.specs.Columns.{matrixIn}
 use Rattle.tree.specs.Build as tree
-use Rattle.score.specs.Score.{ColumnScore, literalScore}
 use Rattle.score.specs.Operation as scoring
 use Rattle.promises.specs.Held.{many}
 
@@ -59,12 +56,11 @@ answerEnd = two 0 ++ two 20
 
 -- ---- questions and answers
 
--- What is asked of the library, each with its bytes; the build with how many numbers of workspace it is lent. Last, the score before document 02's C-12.
+-- What is asked of the library, each with its bytes; the build with how many numbers of workspace it is lent.
 pub data Asked : Type 0 where
   check : List ℕ → Asked
   build : ℕ → List ℕ → Asked
   score : List ℕ → List ℕ → Asked
-  scoreBefore : List ℕ → List ℕ → Asked
 
 -- What it tells: number and place of the refusal, the two numbers that a success returns, and the bytes written.
 pub record Told : Type 0 where
@@ -84,11 +80,6 @@ tells (build space file) =
     let it = tree.returned r in
     record { number = it .number; place = it .place; first = it .size; second = it .sum; bytes = take (it .size) (tree.outputAfter file r (replicate room 0)) }
 tells (score file answer) = let r = scoring.scoreNumbers file answer in record { number = r .number; place = r .place; first = r .raises; second = r .lowers; bytes = [] }
-tells (scoreBefore file answer) =
-    let μ = scoring.standFor file in
-    let of : ℕ → ColumnScore = λ j. literalScore μ (columnIn file j) (scoring.nodeIn μ answer (columnIn file j)) in
-    let m = many (matrixIn file) in
-    record { number = 0; place = 0; first = sum m (λ j. of j .raises); second = sum m (λ j. of j .lowers); bytes = [] }
 
 -- ---- the table
 
@@ -117,10 +108,6 @@ lacks space file = record { asked = build space file; told = record { number = 9
 abbrev scores : List ℕ → List ℕ → ℕ → ℕ → Row
 scores file answer raises lowers = record { asked = score file answer; told = record { number = 0; place = 0; first = raises; second = lowers; bytes = [] } }
 
--- A score by equations 1 and 2 to the letter.
-abbrev scoredBefore : List ℕ → List ℕ → ℕ → ℕ → Row
-scoredBefore file answer raises lowers = record { asked = scoreBefore file answer; told = record { number = 0; place = 0; first = raises; second = lowers; bytes = [] } }
-
 -- Specimen 1's matrix, "78 bytes in, an answer file of 112 bytes".
 abbrev pub first : List ℕ
 first = head 4 3 ++ column 1 0b0011 0b1100 ++ column 1 0b0110 0b1001 ++ column 2 0b1100 0b0011 ++ end
@@ -130,11 +117,11 @@ abbrev firstAnswer : List ℕ
 firstAnswer = answerHead 4 3 3 2 2 ++ group 0xf 1 ++ group 0xe 1 ++ group 0xc 0 ++ flips 0 0 0b0001 ++ flips 1 0b1000 0 ++ answerEnd
 
 -- Specimen 7's matrix.
-abbrev seventh : List ℕ
+abbrev pub seventh : List ℕ
 seventh = head 2 1 ++ column 5 0 0b11 ++ end
 
 -- Its answer file.
-abbrev seventhAnswer : List ℕ
+abbrev pub seventhAnswer : List ℕ
 seventhAnswer = answerHead 2 1 1 0 0 ++ group 3 0 ++ answerEnd
 
 -- The specimens, by number.
@@ -163,10 +150,9 @@ table =
     ∷ answers 3 (head 3 1 ++ column 1 0b111 0 ++ end) 36 0 (answerHead 3 1 1 0 0 ++ group 7 0 ++ answerEnd)
     -- 6
     ∷ answers 0 (head 1 0 ++ end) 20 0 (answerHead 1 0 0 0 0 ++ answerEnd)
-    -- 7, its score as of document 02's C-12, and as it was: above its total, so C-23 rests on C-12.
+    -- 7, its score as of document 02's C-12
     ∷ answers 0 seventh 36 0 seventhAnswer
     ∷ scores seventh seventhAnswer 0 0
-    ∷ scoredBefore seventh seventhAnswer 5 0
     -- "{0,5,6}, {5,6}, {1,2} is one [walking order], yet {1,2} precedes {5,6} here."
     ∷ answers 7 (head 7 3 ++ column 1 0x61 0x1e ++ column 1 0x60 0x1f ++ column 1 0x06 0x79 ++ end) 84 0
     (answerHead 7 3 4 0 0 ++ group 0x7f 0 ++ group 0x61 0 ++ group 0x06 0 ++ group 0x60 0 ++ answerEnd)

@@ -14,7 +14,6 @@ use Rattle.taxa.proofs.Members.{none, in∩, in∖, pow-in, low-in, empty}
 use Rattle.taxa.proofs.Masses.{mass-none, mass-⊆}
 use Rattle.matrix.specs.declared.Column.{Column}
 use Rattle.score.specs.Score.{raisesAt, lowersAt, distance, leaf, Counts, columnScore}
-use Rattle.score.proofs.Columns.{without-ones, with-ones}
 
 module _ (μ : ℕ → ℕ) (c : Column) where
   -- What a column is brought to: a node, or nothing where it has no 1.
@@ -34,11 +33,9 @@ module _ (μ : ℕ → ℕ) (c : Column) where
   both X = sym (mul-add (c .weight) (raisesAt μ c X) (lowersAt μ c X))
 
   pub score-distance : (X : ℕ) → columnScore μ c X .raises + columnScore μ c X .lowers ≡ distance μ c (goal X)
+  unfolding columnScore
   score-distance X =
-      elim (ℕ-discrete (c .ones) 0) [
-        | yes no-one ↦ rw (without-ones μ c X no-one, eq-eqb (c .ones) 0 no-one) (sym (free no-one))
-        | no some ↦ rw (with-ones μ c X some, ne-eqb (c .ones) 0 some) (both X)
-      ]
+      elim (ℕ-discrete (c .ones) 0) [ yes no-one ↦ rw (eq-eqb (c .ones) 0 no-one) (sym (free no-one)) | no some ↦ rw (ne-eqb (c .ones) 0 some) (both X) ]
 
   -- A leaf on one of its 1s is no farther than nothing.
   leaf-nearer : Disjoint (c .ones) (c .zeros) → (i : ℕ) → i ∈ c .ones → distance μ c (leaf i) ≤ distance μ c 0
