@@ -1,6 +1,7 @@
 -- Choices of flips. To fill a column to F its 0s in F and its 1s outside F have to be flipped (`needed`), and no more (`enough`); columns are independent,
 -- so where each column has its best F, the sum of what these ask is the least weight of a choice (`least-weight`). The flips from one matrix to
--- another that knows the same entries are a choice (`changes-choice`), which makes the other of the one (`turned-same`) and weighs what they do (`changes-weigh`).
+-- another that knows the same entries are a choice (`changes-choice`), which makes the other of the one (`turned-same`) and weighs what they do
+-- (`changes-weigh`).
 use mathlib.Core.Path.{_≡_, refl, sym, ap, _∙_}
 use mathlib.Core.Bool.{Bool, true, false, _&&_, _||_, cond, true≢false, false≢true}
 use mathlib.Core.Logic.{_⊎_, inl, inr, ⊎-elim}
@@ -115,7 +116,8 @@ filling k μ c F = c .weight * mass k μ (wrong c F)
 module _ (k : ℕ) (μ : ℕ → ℕ) (m : ℕ) (cols : ℕ → Column) (clade : ℕ → Type 0) (X : ℕ) where
   -- "A choice of flips for one column does not touch another, so the least of the sum is the sum of the leasts."
   pub least-weight : ((c : ℕ) → c < m → Proper (cols c)) → ((c : ℕ) → c < m → cols c .ones ⊆ X)
-      → (best : ℕ → ℕ) → ((c : ℕ) → c < m → Goal clade X (best c)) → ((c F : ℕ) → c < m → Goal clade X F → filling k μ (cols c) (best c) ≤ filling k μ (cols c) F)
+      → (best : ℕ → ℕ) → ((c : ℕ) → c < m → Goal clade X (best c))
+      → ((c F : ℕ) → c < m → Goal clade X F → filling k μ (cols c) (best c) ≤ filling k μ (cols c) F)
       → LeastWeight k μ m cols clade X (sum m (λ c. filling k μ (cols c) (best c)))
   unfolding choiceWeight
   least-weight proper inside best goal least =

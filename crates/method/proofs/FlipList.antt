@@ -137,7 +137,9 @@ module _ (old new : ℕ → Column) where
       mid = made (flipList m old new) old
 
       last : Same (made (entry (of m)) mid m) (new m) i
-      last = same-trans (entry-at (of m) mid i) (subst (λ (x : Column). Same (flipBy (of m) x) (new m) i) (sym (made-off m m (omega arith))) (listed-same (p m) (q m) (e m) i))
+      last =
+          same-trans (entry-at (of m) mid i)
+          (subst (λ (x : Column). Same (flipBy (of m) x) (new m) i) (sym (made-off m m (omega arith))) (listed-same (p m) (q m) (e m) i))
 
   -- The list weighs what the columns' flips do.
   module _ (k : ℕ) (μ : ℕ → ℕ) where

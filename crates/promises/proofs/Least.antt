@@ -1,6 +1,7 @@
 -- Document 02's C-23. Of any accepted pair the score is the least weight of a choice of flips (`score-is-least`), by the columns of the method
--- (`least-weight`) and of the score (`score-distance`, `none-nearer`), for the nodes of an answer are the clades of its tree (`any-answer-is-a-tree`). The flips
--- of a built answer are such a choice (`flips-are-a-choice`), so its score is at most its total (`score-at-most-total`).
+-- (`least-weight`) and of the score (`score-distance`, `none-nearer`), for the nodes of an answer are the clades of its tree
+-- (`any-answer-is-a-tree`). The flips of a built answer are such a choice (`flips-are-a-choice`), so its score is at most its total
+-- (`score-at-most-total`).
 use mathlib.Core.Path.{_≡_, refl, sym, ap, _∙_}
 use mathlib.Core.Logic.{_⊎_, inl, inr, ⊎-elim}
 use mathlib.Core.List.{List}
@@ -121,7 +122,9 @@ module _ {file answerFile : List ℕ} (f : File file) (g : File answerFile) (p :
     goals : (c : ℕ) → Goal (cladesIn answerFile M) (known M) (best c)
     goals c =
         let clade = node-clade (column-node f x returns c .is-node) in
-        either-way (Goal (cladesIn answerFile M) (known M)) (eqb (columnIn file c .ones) 0) (inl refl, record { sub = λ h. absurd (none h) }) (inr clade, any-answer-is-a-tree .inside clade)
+        either-way (Goal (cladesIn answerFile M) (known M)) (eqb (columnIn file c .ones) 0)
+        (inl refl, record { sub = λ h. absurd (none h) })
+        (inr clade, any-answer-is-a-tree .inside clade)
 
     -- No clade is nearer, nor is nothing.
     nearest : (c F : ℕ) → c < m → F ≡ 0 ⊎ cladesIn answerFile M F → distance μ (columnIn file c) (best c) ≤ distance μ (columnIn file c) F
@@ -174,7 +177,8 @@ module _ {file answerFile : List ℕ} (f : File file) (b : Leaves file answerFil
       }
 
   -- Its flips are a choice of flips: it makes the columns that they make, lets them be filled to the clades, and weighs the total.
-  pub flips-are-a-choice : (chosen : ℕ → ℕ) × LetsFill 64 (multiplicitiesOf built) (many built) (columnsOf built) (cladesIn answerFile built) (known built) chosen
+  pub flips-are-a-choice : (chosen : ℕ → ℕ)
+      × LetsFill 64 (multiplicitiesOf built) (many built) (columnsOf built) (cladesIn answerFile built) (known built) chosen
       × ((c i : ℕ) → c < many built → Same (turnedBy chosen (columnsOf built) c) (made (flipsIn answerFile) (columnsOf built) c) i)
       × (choiceWeight 64 (multiplicitiesOf built) (many built) (columnsOf built) chosen ≡ totalIn answerFile)
   flips-are-a-choice = rw (groups-are f b, flips-are f b, total-is f b) (method.answer-choice built (sound f b))

@@ -1,5 +1,6 @@
 -- The score of every accepted pair of files: for each column there is a node that counts (`column-node`), and raises and lowers are the sums over the
--- columns at such nodes, whichever of them are taken (`score-is`). There is a score of such pairs only (`scored-exactly`). How it was before document 02's C-12: `score-before`.
+-- columns at such nodes, whichever of them are taken (`score-is`). There is a score of such pairs only (`scored-exactly`). How it was before
+-- document 02's C-12: `score-before`.
 use mathlib.Core.Path.{_≡_, refl, sym, ap, _∙_}
 use mathlib.Core.Bool.{Bool, true, false, _&&_, cond}
 use mathlib.Core.List.{List}
@@ -66,7 +67,8 @@ module _ (matrix answer : List ℕ) (raises lowers : ℕ) where
   agree = checked-first (checked matrix) refl
 
 -- Of an accepted pair the score is returned.
-pair-scored : {matrix answer : List ℕ} (p : AcceptedPair matrix answer) → scores.Taken (raisesIn matrix answer (p .m)) (lowersIn matrix answer (p .m)) ≡ scored matrix answer
+pair-scored : {matrix answer : List ℕ} (p : AcceptedPair matrix answer)
+    → scores.Taken (raisesIn matrix answer (p .m)) (lowersIn matrix answer (p .m)) ≡ scored matrix answer
 unfolding scored agreed
 pair-scored {matrix} {answer} p =
     rw (← p .accepted .taken, ← p .accepted .passes, eq-eqb (contentIn answer .n) (p .n) (p .same-n), eq-eqb (contentIn answer .m) (p .m) (p .same-m))
@@ -120,7 +122,9 @@ module _ {matrix answer : List ℕ} (f : File matrix) {r : Scored} (x : Scores m
 
     summed : (direction : ColumnScore → ℕ) → sum (pair .m) (λ j. direction (columnScore μ (columnIn matrix j) (nodeIn μ answer (columnIn matrix j))))
         ≡ sum all-columns (λ j. direction (columnScore μ (columnIn matrix j) (node j)))
-    summed direction = sum-≡ (pair .m) (λ j l. ap direction (same l)) ∙ ap (λ (k : ℕ). sum k (λ j. direction (columnScore μ (columnIn matrix j) (node j)))) (sym many)
+    summed direction =
+        sum-≡ (pair .m) (λ j l. ap direction (same l))
+        ∙ ap (λ (k : ℕ). sum k (λ j. direction (columnScore μ (columnIn matrix j) (node j)))) (sym many)
 
     -- "Raises and lowers, each times its weight": the sums over the columns, each with a 1 at a node that counts for it.
     pub score-is : (returned r .raises ≡ sum all-columns (λ j. columnScore μ (columnIn matrix j) (node j) .raises))
