@@ -54,7 +54,7 @@ told-leaves space file told =
     }
 
 seventh-before : scoreBefore seventh seventhAnswer ≡ 5
-unfolding sum mass count multiplicity hasMultiplicities multiplicityCount multiplicitiesIn columnsAt columnsFrom matrixOf _∩_ _∖_ numberAt run taxaIn distance nearer nearestIn nodeFor
+unfolding sum mass multiplicity hasMultiplicities multiplicityCount multiplicitiesIn columnsAt columnsFrom matrixOf _∩_ _∖_ numberAt run taxaIn distance nearer nearestIn nodeFor
 seventh-before = refl
 
 -- The build leaves a tree whose score before C-12 is above its total: specimen 7's. (Row 10 is its build.)
