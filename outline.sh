@@ -1,11 +1,24 @@
 #!/usr/bin/env bash
-# Prints the tree of a matrix file:
-#   ./outline.sh [FILE]   without FILE, specimen 1 of document 01
-# The first run proves and builds the program and takes some minutes; what the prover says goes to standard error.
+# Prints the tree of a matrix file; the first run proves and builds the program and takes some minutes. How it ends is told by its status: scripts/program.sh.
 set -euo pipefail
-here=$(cd "$(dirname "$0")" && pwd -P)
-file=$(readlink -f "${1:-$here/samples/specimen-1.matrix}")
-cd "$here"
-. tests/env.sh
-rt check outline >&2
-"${run_rattle[@]}" target/bin/outline < "$file"
+usage='usage: ./outline.sh FILE prints the tree of a matrix file (- is standard input)'
+. "$(dirname "$(readlink -f "$0")")/scripts/program.sh"
+count_words 1 1 "$@"
+if [ "$1" = - ]; then
+    file='standard input'
+else
+    judge_file "$1"
+    file="'$1'"
+fi
+. "$top/scripts/machine.sh"
+prove outline
+
+# The program reads no more, and takes what it could not read for the file's end: so the file is read here.
+most=5713
+said=$(
+    head -c $most -- "$1" 2>/dev/null | "${run_rattle[@]}" "$top/target/bin/outline"
+    ended=("${PIPESTATUS[@]}")
+    [ "${ended[0]}" = 0 ] || stop 1 "$file could not be read"
+    [ "${ended[1]}" = 0 ] || stop 1 "the program ended early, with status ${ended[1]}"
+)
+tell "$said" "$file"

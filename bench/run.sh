@@ -13,8 +13,7 @@ alone port "method search" <<'RT'
 ghost use Prim.Native.Nat.{_≤_, _<_};
 ghost use lib.ListN.{length};
 ghost use Rattle.method.specs.Flow.{arcCount};
-ghost use Rattle.search.specs.Search.{colsOf, Given};
-ghost use Rattle.search.specs.Network.{Lent};
+ghost use Rattle.search.specs.Search.{colsOf, Given, Lent};
 
 fn wide(x: u32) -> u64 {
     x as u64

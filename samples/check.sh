@@ -1,16 +1,22 @@
 #!/usr/bin/env bash
-# Checks a matrix file and scores an answer file against it with the proved library, called from C:
-#   samples/check.sh [MATRIX [ANSWER]]   without words, specimen 1 of document 01 and its answer
-# The first run proves the library and takes a few minutes; what the prover says goes to standard error.
+# Checks a matrix file and scores an answer file against it with the proved library, called from C; the first run proves the library and takes a few
+# minutes. How it ends is told by its status: scripts/program.sh.
 set -euo pipefail
-here=$(cd "$(dirname "$0")" && pwd -P)
-[ $# -gt 0 ] || set -- "$here/specimen-1.matrix" "$here/specimen-1.answer"
-files=()
-for file; do files+=("$(readlink -f "$file")"); done
-cd "$here/.."
-. tests/env.sh
-rt staticlib flipcut >&2
+usage='usage: samples/check.sh MATRIX [ANSWER] checks a matrix file, and scores an answer file against it'
+. "$(dirname "$(readlink -f "$0")")/../scripts/program.sh"
+count_words 1 2 "$@"
+for file; do judge_file "$file"; done
+. "$top/tests/env.sh"
+archive flipcut
+
 room=$(mktemp -d)
 trap 'rm -rf "$room"' EXIT
-"$cc" "${c_flags[@]}" -I include samples/check.c target/staticlib/libflipcut.a -o "$room/check"
-${run[@]+"${run[@]}"} "$room/check" "${files[@]}"
+"$cc" "${c_flags[@]}" -I "$top/include" "$top/samples/check.c" "$top/target/staticlib/libflipcut.a" -o "$room/check"
+status=0
+said=$(${run[@]+"${run[@]}"} "$room/check" "$@") || status=$?
+[ "$status" -le 1 ] || stop 1 "the program ended early, with status $status"
+# It says a line of each file.
+case $said in
+*$'\n'*) tell "$said" "'$2'" ;;
+*) tell "$said" "'$1'" ;;
+esac

@@ -1,25 +1,20 @@
-# Sourced by the scripts that compile or run something beside the proofs. It sets
+# Sourced by the scripts that compile something beside the proofs. It sets, beside what scripts/machine.sh sets,
 #   host_cxx   the compiler for this machine
 #   cc, cxx    the compilers for programs that link what Rattle compiles, which is x86-64 code
 #   run        the words before such a program: none, or the toolchain's emulator
-#   run_rattle the words before a program of target/bin: as rt itself runs it
 #   outline_stack   the stack, in KiB, that the program `outline` has to do with (document 02's C-16)
 #   limit_stack     a function that sets run_limited, the words before a program of target/bin that is to have no more stack than it says
 #   c_flags, cxx_flags   the words after a compiler
 #   add_package     a function that installs one of Debian's packages
 # and installs what is missing from Debian's packages.
 
-machine=$(uname -m)
-
-command -v rt >/dev/null || { echo "rt, the Rattle toolchain's command, is not in PATH" >&2; exit 1; }
-kit=${RATTLE_HOME:-$(dirname "$(dirname "$(readlink -f "$(command -v rt)")")")}
-tools=$kit/on/$machine/toolchain
+. "$(dirname "${BASH_SOURCE[0]}")/../scripts/machine.sh"
 
 add_package() { # PACKAGE
-    [ "$(id -u)" = 0 ] || { echo "Debian's package $1 is missing: install it" >&2; exit 1; }
-    echo "installing $1"
+    [ "$(id -u)" = 0 ] || { echo "Debian's package $1 is missing: install it" >&2; exit 3; }
+    echo "installing $1" >&2
     apt-get update -qq >&2 && DEBIAN_FRONTEND=noninteractive apt-get install -y -qq --no-install-recommends "$1" >/dev/null ||
-        { echo "Debian's package $1 could not be installed" >&2; exit 1; }
+        { echo "Debian's package $1 could not be installed" >&2; exit 3; }
 }
 
 # Installs a package where its command is missing.
@@ -30,23 +25,14 @@ need() { # COMMAND PACKAGE
 need g++ g++
 host_cxx=g++
 case $machine in
-x86_64)
-    cc=gcc cxx=g++ run=()
-    ;;
+x86_64) cc=gcc cxx=g++ run=() ;;
 aarch64)
     need x86_64-linux-gnu-g++ g++-x86-64-linux-gnu
     # The emulator finds the x86-64 C and C++ libraries where Debian's cross compiler has them. (Its libm.a names files
     # where it has none, so a static program cannot be linked.)
-    cc=x86_64-linux-gnu-gcc cxx=x86_64-linux-gnu-g++ run=("$tools/bin/qemu-x86_64" -L /usr/x86_64-linux-gnu)
-    # Where the C library fills memory with `rep stosb` the emulator goes byte by byte, 50 times as long as the library's other way.
-    run+=(-E GLIBC_TUNABLES=glibc.cpu.hwcaps=-ERMS)
-    ;;
-*)
-    echo "no way is known to run x86-64 code on this machine, $machine" >&2
-    exit 1
+    cc=x86_64-linux-gnu-gcc cxx=x86_64-linux-gnu-g++ run=("${emulator[@]}" -L /usr/x86_64-linux-gnu)
     ;;
 esac
-run_rattle=(${run[@]+"${run[@]}"} "$tools/lib/ld-linux-x86-64.so.2" --library-path "$tools/lib")
 
 outline_stack=160
 # A program's variables stand on its stack, so it is given none. The emulator's stack has 8 MiB where `ulimit` says less: it goes by its own

@@ -29,7 +29,8 @@ use Rattle.answer.proofs.Files.{read-through}
 use Rattle.answer.proofs.Runs.{length-entries}
 use Rattle.answer.proofs.Outcomes.{laid}
 use Rattle.entries.specs.declared.Flip.{Flip}
-use Rattle.entries.specs.Entries.{zipped, entriesOf, withFirst, stored, ReadsEntries, InParts}
+use Rattle.entries.specs.Entries.{zipped, entriesOf, stored, ReadsEntries}
+use Rattle.entries.specs.inner.Parts.{withFirst, InParts}
 use Rattle.entries.proofs.Rows.{long-zipped}
 
 -- ---- entries from parts

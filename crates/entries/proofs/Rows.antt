@@ -9,7 +9,8 @@ use native.Mathlib.Omega.{arith}
 use mathlib.Core.List.{List, [], _∷_, map}
 use lib.ListN.{length, getD, set, length-map, List·getD-map}
 use Rattle.entries.specs.declared.Flip.{Flip}
-use Rattle.entries.specs.Entries.{zipped, withFirst}
+use Rattle.entries.specs.Entries.{zipped}
+use Rattle.entries.specs.inner.Parts.{withFirst}
 
 -- what `getD` gives past the end of a list of flips
 abbrev pub blank : Flip

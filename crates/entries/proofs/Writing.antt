@@ -22,7 +22,8 @@ use Rattle.answer.proofs.Walks.{given-head}
 use Rattle.answer.proofs.Stages.{head-stops}
 use Rattle.answer.proofs.Outcomes.{given-refused}
 use Rattle.entries.specs.declared.Flip.{Flip}
-use Rattle.entries.specs.Entries.{entryColumns, entryRaised, entryLowered, entryContent, withFirst}
+use Rattle.entries.specs.Entries.{entryColumns, entryRaised, entryLowered, entryContent}
+use Rattle.entries.specs.inner.Parts.{withFirst}
 use Rattle.entries.proofs.Reading.{room-same}
 
 -- ---- the head is judged as for the whole list

@@ -1,8 +1,8 @@
 -- The flip list as "a lent list of entries, each a column with its raised and lowered taxa" (document 01, "Operations and refusals").
 use mathlib.Core.Path.{_≡_}
 use mathlib.Core.List.{List, [], _∷_, _++_, map}
-use Prim.Native.Nat.{ℕ, _<_, _≤_, _^_}
-use lib.ListN.{length, getD, take, drop}
+use Prim.Native.Nat.{ℕ}
+use lib.ListN.{length, drop}
 use Rattle.answer.specs.Content.{Content, contentIn, contentOf}
 use Rattle.answer.specs.Reading.{reading, returned, readNumbers}
 use Rattle.answer.specs.Writing.{Writes}
@@ -40,14 +40,6 @@ entriesOf c = zipped (c .columns) (c .raised) (c .lowered)
 abbrev pub entryContent : Answer → List Flip → Content
 entryContent a list = contentOf a (entryColumns list) (entryRaised list) (entryLowered list)
 
--- A list with its first k elements replaced by those of another.
-abbrev pub withFirst : {X : Type 0} → ℕ → List X → List X → List X
-withFirst k xs zs = take k xs ++ drop k zs
-
--- Each of the first k columns fits its file width.
-abbrev pub narrow : List ℕ → ℕ → Type 0
-narrow columns k = (i : ℕ) → i < k → getD columns i 0 < 2 ^ 16
-
 -- What is stored: all of it if the file is taken, nothing on a refusal.
 abbrev pub stored : {X : Type 0} → Verdict → List X → List X
 stored Taken new = new
@@ -62,13 +54,3 @@ pub record ReadsEntries (file : List ℕ) (list : List Flip) (r : Reading) (list
 -- What writing promises of its answer and of the output: what writing the content of the value and the list promises.
 abbrev pub WritesEntries : Answer → List Flip → List ℕ → Written → List ℕ → Type 0
 WritesEntries a list out r out′ = Writes (entryContent a list) (length list) out r out′
-
--- What reading for a list of so many entries leaves in three parts of 256: the flips that it counts stand first, and have room.
-pub record InParts (file : List ℕ) (entries : ℕ) (r : Reading) (columns raised lowered : List ℕ) : Type 0 where
-  pub answers : r ≡ reading file entries
-  pub has-room : r .answer .flips ≤ entries
-  pub few : r .answer .flips ≤ 256
-  pub columns-first : take (r .answer .flips) columns ≡ stored (r .verdict) (contentIn file .columns)
-  pub raised-first : take (r .answer .flips) raised ≡ stored (r .verdict) (contentIn file .raised)
-  pub lowered-first : take (r .answer .flips) lowered ≡ stored (r .verdict) (contentIn file .lowered)
-  pub columns-narrow : narrow columns (r .answer .flips)

@@ -11,7 +11,8 @@ ghost use Prim.Native.Nat.{_≤_, min};
 ghost use lib.ListN.{length, take};
 ghost use Rattle.answer.specs.Content.{contentOf};
 ghost use Rattle.answer.specs.Writing.{Writes};
-ghost use Rattle.entries.specs.Entries.{zipped, entryColumns, entryRaised, entryLowered, withFirst, narrow, InParts, ReadsEntries, WritesEntries};
+ghost use Rattle.entries.specs.Entries.{zipped, entryColumns, entryRaised, entryLowered, ReadsEntries, WritesEntries};
+ghost use Rattle.entries.specs.inner.Parts.{withFirst, narrow, InParts};
 
 // A column with its raised and lowered taxa, the column in its file width. As C lays it out, so that C can lend a list of them.
 #[repr(C)]

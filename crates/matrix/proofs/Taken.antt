@@ -22,7 +22,8 @@ use Rattle.record.proofs.Steps.{Held, held, record-bytes}
 use Rattle.record.proofs.Passing.{unless, through-step, through}
 use Rattle.matrix.specs.declared.Checked.the-variants.{Taken}
 use Rattle.matrix.specs.declared.Column.{Column}
-use Rattle.matrix.specs.Matrix.{Legal, LegalMultiplicities, absent, given, LegalColumn, LegalColumns, none, one, headBytes, multiplicityBytes, columnBytes, columnsBytes, endBytes, fileOf, hasMultiplicities, multiplicitiesIn, Multiplied, columnsAt, columnAt, columnIn, columnsFrom, matrixOf}
+use Rattle.matrix.specs.Matrix.{Legal, LegalMultiplicities, absent, given, LegalColumn, LegalColumns, none, one, headBytes, multiplicityBytes, columnBytes, columnsBytes, endBytes, fileOf, hasMultiplicities, multiplicitiesIn, columnsAt, columnAt, columnIn, columnsFrom, matrixOf}
+use Rattle.matrix.specs.inner.Planes.{Multiplied}
 use Rattle.matrix.specs.Check.{headPassed, multiplicitiesPassed, columnPassed, columnsPassed, endPassed, filePassed, answered, checked}
 use Rattle.matrix.proofs.Passing.{Head, head, There, there, not-there, Passing, passing}
 use Rattle.matrix.proofs.Multiplying.{multiplicities-there, columns-there, multiplicities-none, columns-none, before-columns, given-bytes, legal-fit}

@@ -7,7 +7,7 @@ use Prim.Native.Nat.{ℕ, zero, suc, _+_, _*_, _<_, _≤_}
 use lib.Dec.{ltb, eqb}
 use lib.ListN.{length, take, drop}
 use Rattle.taxa.specs.Sum.{sum}
-use Rattle.taxa.specs.Sets.{_∩_, _⊆_, multiplicity, Multiplicities, all}
+use Rattle.taxa.specs.Sets.{_∩_, _⊆_, multiplicity, all}
 use Rattle.record.specs.Bytes.{numberAt, bytesOf}
 use Rattle.record.specs.Records as records
 use Rattle.record.specs.Records.{recordOf, multiplicityRecord, recordBytes}
@@ -116,8 +116,3 @@ columnsFrom file (suc m) at = columnAt file (at + 4) ∷ columnsFrom file m (at 
 unfoldable pub matrixOf : List ℕ → Matrix
 matrixOf file =
     record { taxa = numberAt 2 file 4; multiplicities = multiplicitiesIn file; columns = columnsFrom file (numberAt 2 file 6) (columnsAt file) }
-
--- What is asked of a file whose multiplicities are read; the check sees to it.
-pub record Multiplied (file : List ℕ) : Type 0 where
-  pub long : 12 + multiplicityCount file ≤ length file
-  pub fit : Multiplicities (multiplicitiesIn file)

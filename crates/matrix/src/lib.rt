@@ -12,7 +12,8 @@ ghost use mathlib.Core.Path.{_≡_};
 ghost use Prim.Native.Nat.{_+_, _*_, _<_, _≤_};
 ghost use lib.ListN.{length};
 ghost use Rattle.taxa.specs.Sets.{multiplicity, multiplicityIn, Tabled};
-ghost use Rattle.matrix.specs.Matrix.{hasMultiplicities, multiplicityCount, multiplicitiesIn, Multiplied, columnsAt, columnAt, columnIn};
+ghost use Rattle.matrix.specs.Matrix.{hasMultiplicities, multiplicityCount, multiplicitiesIn, columnsAt, columnAt, columnIn};
+ghost use Rattle.matrix.specs.inner.Planes.{Multiplied};
 ghost use Rattle.matrix.specs.Check as check;
 
 pub struct Column {

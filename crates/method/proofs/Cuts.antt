@@ -10,7 +10,7 @@ use Rattle.taxa.specs.Sum.{sum, ∁, inside}
 use Rattle.taxa.proofs.Sums.{sum-≡, sum-≤, sum-+, sum-<}
 use Rattle.taxa.proofs.Insides.{not-both, not-out, inside-swap}
 use Rattle.method.specs.Flow.{cut, cutCost, Flow, Via, Reach, start, step}
-use Rattle.method.specs.Sources.{FlowFrom, ReachFrom}
+use Rattle.method.specs.inner.Sources.{FlowFrom, ReachFrom}
 use Rattle.method.proofs.Sources.{total, only, only-alone, from-one, reach-one, one-reach}
 use Rattle.method.proofs.Hops.{Escape, column-≤, slack-escape, escape-slack}
 

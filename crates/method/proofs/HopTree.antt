@@ -7,7 +7,7 @@ use mathlib.Core.Bool.{Bool, true, false, true≢false}
 use mathlib.Core.Logic.{_≢_, _⊎_, inl, inr, ⊎-elim, _↔_}
 use native.Mathlib.Omega.{arith}
 use Rattle.method.specs.Flow.{ColumnFlow, Reach, start, step}
-use Rattle.method.specs.Sources.{ReachFrom}
+use Rattle.method.specs.inner.Sources.{ReachFrom}
 use Rattle.method.proofs.Sources.{true?}
 use Rattle.method.proofs.Carry.{up, down, room, carry, same?, carry-up, carry-down, carry-some, most-room, open-carry, carry-open}
 

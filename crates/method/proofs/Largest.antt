@@ -9,7 +9,7 @@ use native.Mathlib.Nat.{le-refl}
 use native.Mathlib.Omega.{arith}
 use Rattle.taxa.proofs.Sums.{sum-0}
 use Rattle.method.specs.Flow.{cutCost, Flow, Reach, start, Largest}
-use Rattle.method.specs.Sources.{FlowFrom, ReachFrom}
+use Rattle.method.specs.inner.Sources.{FlowFrom, ReachFrom}
 use Rattle.method.proofs.Sources.{true?, only, only-alone, alone-off, as-one, reach-one, one-reach}
 use Rattle.method.proofs.Cuts.{weak, weak-from, least, min-cut}
 use Rattle.method.proofs.Carry.{Hopped, put, put-at, put-off}

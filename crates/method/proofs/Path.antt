@@ -10,7 +10,7 @@ use Rattle.taxa.specs.Sum.{sum, inside}
 use Rattle.taxa.proofs.Sums.{sum-≡, sum-but, sum-0, sum-none, sum-bump}
 use Rattle.taxa.proofs.Insides.{cond-≡, inside-+}
 use Rattle.method.specs.Flow.{ColumnFlow}
-use Rattle.method.specs.Sources.{FlowFrom}
+use Rattle.method.specs.inner.Sources.{FlowFrom}
 use Rattle.method.proofs.Sources.{total}
 use Rattle.method.proofs.Carry.{up, down, room, most, carry, Hopped, same?, put, put-at, put-off, carry-up, carry-down, carry-most, moved, same-column}
 use Rattle.method.proofs.HopTree.{Tree, Link}

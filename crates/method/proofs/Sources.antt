@@ -9,7 +9,7 @@ use borrow.Author.Tests.{eq-eqb, eqb-true}
 use Rattle.taxa.specs.Sum.{sum, inside}
 use Rattle.taxa.proofs.Sums.{sum-0, sum-bump}
 use Rattle.method.specs.Flow.{Flow, Reach}
-use Rattle.method.specs.Sources.{FlowFrom, ReachFrom}
+use Rattle.method.specs.inner.Sources.{FlowFrom, ReachFrom}
 
 pub true? : (b : Bool) → (b ≡ true) ⊎ (b ≡ false)
 true? true = inl refl

@@ -3,5 +3,5 @@ pub mod Split
 pub mod Tree
 pub mod Choices
 pub mod Flow
-pub mod Sources
 pub mod Counted
+pub mod inner

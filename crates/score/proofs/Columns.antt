@@ -16,7 +16,8 @@ use Rattle.taxa.proofs.Masses.{mass-none, mass-∖-∩}
 use Rattle.taxa.proofs.Sums.{sum-next, sum-≡, sum-+}
 use Rattle.record.proofs.Steps.{either-way}
 use Rattle.matrix.specs.declared.Column.{Column}
-use Rattle.score.specs.Score.{ColumnScore, raisesAt, lowersAt, Counts, literalScore, columnScore, raisesOf, lowersOf, Light, columnMost}
+use Rattle.score.specs.Score.{ColumnScore, raisesAt, lowersAt, Counts, literalScore, columnScore, raisesOf, lowersOf}
+use Rattle.score.specs.inner.Light.{Light, columnMost}
 use Rattle.score.proofs.Nearest.{same-flips}
 
 -- ---- one column

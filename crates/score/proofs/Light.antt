@@ -14,7 +14,7 @@ use Rattle.matrix.specs.Matrix.{LegalColumn, columnIn, matrixOf}
 use Rattle.matrix.specs.Check.{checked}
 use Rattle.matrix.proofs.Taken.{taken-legal, taken-column}
 use Rattle.matrix.proofs.Multiplying.{legal-merged}
-use Rattle.score.specs.Score.{Light}
+use Rattle.score.specs.inner.Light.{Light}
 use Rattle.score.specs.Operation.{standFor}
 
 -- A legal column is light where all n taxa are.

@@ -30,7 +30,8 @@ use Rattle.answer.specs.Reading.{fileTests}
 use Rattle.answer.proofs.Files.{headOf, groupsOf, flipsOf, endOf, head-leads}
 use Rattle.score.specs.declared.Scored.{Scored}
 use Rattle.score.specs.declared.Scored.the-variants as scores
-use Rattle.score.specs.Score.{columnScore, raisesOf, lowersOf, columnMost}
+use Rattle.score.specs.Score.{columnScore, raisesOf, lowersOf}
+use Rattle.score.specs.inner.Light.{columnMost}
 use Rattle.score.specs.Operation.{nodeIn, standFor, agreed, afterAnswer, afterMatrix, scored}
 use Rattle.score.proofs.Columns.{column-small}
 use Rattle.score.proofs.Light.{taken-light}

@@ -76,12 +76,3 @@ unfoldable pub lowersOf : (ℕ → ℕ) → (ℕ → Column) → (Column → ℕ
 lowersOf μ column node m = sum m (λ j. columnScore μ (column j) (node (column j)) .lowers)
 
 -- ---- what fits the code's numbers
-
--- The specimens that the 0s of a column stand for, and those that its 1s do: "the sum is [not] above 127".
-pub record Light (μ : ℕ → ℕ) (c : Column) : Type 0 where
-  pub ones-few : mass 64 μ (c .ones) ≤ 127
-  pub zeros-few : mass 64 μ (c .zeros) ≤ 127
-
--- The most that a column raises, or lowers: 127 flips of a weight of 65,535.
-abbrev pub columnMost : ℕ
-columnMost = 8322945

@@ -13,7 +13,7 @@ ghost use lib.ListN.{length, getD};
 ghost use Rattle.taxa.specs.Sets.{multiplicityIn};
 ghost use Rattle.matrix.specs.Matrix.{columnsAt, columnIn};
 ghost use Rattle.score.specs.Score as score;
-ghost use Rattle.score.specs.Score.{Light, columnMost};
+ghost use Rattle.score.specs.inner.Light.{Light, columnMost};
 ghost use Rattle.score.specs.Operation as operation;
 ghost use Rattle.score.specs.Operation.{Readable};
 

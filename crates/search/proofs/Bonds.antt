@@ -19,8 +19,9 @@ use Rattle.taxa.proofs.Members.{all-<, in-all, in-pos, out, in∩, ∩-≤, in-
 use Rattle.taxa.proofs.Counts.{count-pos, count-remove}
 use Rattle.taxa.proofs.Planes.{in-small}
 use Rattle.method.proofs.Carry.{same?}
-use Rattle.search.specs.Network.{nth, flowMost, weightMost, Unused}
-use Rattle.search.specs.Trying.{Limits, tie, ties, weighs, Ties, Weighed, Few, SameLimits, ColumnAdded, Added, Loose}
+use Rattle.search.specs.Search.{nth}
+use Rattle.search.specs.inner.Network.{flowMost, weightMost, Unused}
+use Rattle.search.specs.inner.Trying.{Limits, tie, ties, weighs, Ties, Weighed, Few, SameLimits, ColumnAdded, Added, Loose}
 use Rattle.search.proofs.Reaching.{gone-one, still-in}
 
 cond-most : (p : Bool) (w : ℕ) → cond p w 0 ≤ w

@@ -17,16 +17,16 @@ use Rattle.taxa.proofs.Members.{below, pow-in}
 use Rattle.taxa.proofs.Planes.{in-small}
 use Rattle.method.specs.Flow.{cut}
 use Rattle.search.specs.Workspace.{outs, inns, cleared, Kept}
-use Rattle.method.proofs.Carry.{Hopped, Moved}
+use Rattle.method.proofs.Carry.{Hopped, Moved, same?, sum-two}
 use Rattle.method.proofs.HopTree.{Tree, Link}
-use Rattle.search.specs.Network.{nth, arcMost, flowMost, caps, CanHop, Unused, Net, Ready}
-use Rattle.search.specs.Reaching.{fromOf, viaOf, turnOf, widthOf, carried, Found}
-use Rattle.search.specs.Flows.{CanCount, Counted, Flowing, Advanced}
+use Rattle.search.specs.Search.{nth}
+use Rattle.search.specs.inner.Network.{arcMost, flowMost, caps, CanHop, Unused, Net, Ready}
+use Rattle.search.specs.inner.Reaching.{fromOf, viaOf, turnOf, widthOf, carried, Found}
+use Rattle.search.specs.inner.Flows.{CanCount, Counted, Flowing, Advanced}
 use Rattle.search.proofs.Workspace.{kept-none, kept-then, cleared-kept, out-0, inn-0}
 use Rattle.search.proofs.Reaching.{pair, hop-joins}
 use Rattle.method.proofs.Sources.{true?, only, only-alone, alone-off, inside-alone}
 use Rattle.method.proofs.Cuts.{weak-from}
-use Rattle.method.proofs.Carry.{same?, sum-two}
 use Rattle.method.proofs.Path.{direct-sends, direct-takes, direct, Pushing, push-start, push-step, push-end, apart, sends, takes}
 
 -- ---- sizes

@@ -19,7 +19,7 @@ use Rattle.taxa.proofs.Counts.{count-pos, count-some, count-width}
 use Rattle.taxa.proofs.Masses.{mass-in, mass-width}
 use Rattle.method.specs.Split.{Division, divisionCost, side}
 use Rattle.method.specs.Flow.{joined, arcCount, cap, through, cutCost, Flow, Reach, start, step}
-use Rattle.method.specs.Sources.{FlowFrom}
+use Rattle.method.specs.inner.Sources.{FlowFrom}
 use Rattle.method.proofs.Sources.{as-one, reach-one, one-reach}
 use Rattle.method.proofs.Cuts.{weak, min-cut, MinCut}
 use Rattle.method.proofs.Cuts as cuts
@@ -27,10 +27,10 @@ use Rattle.method.proofs.Listing.{Search, search-side}
 use Rattle.method.proofs.Network.{network-cost}
 use Rattle.search.specs.Workspace.{slot, netFlow, outs, inns, cleared}
 use Rattle.search.specs.Signed.{outOf, innOf}
-use Rattle.search.specs.Network.{nth, caps, Offsets, Net}
-use Rattle.search.specs.Flows.{Side}
-use Rattle.search.specs.Search.{colsOf, Given, capsOf, throughOf, joinsOf, DividedByFlow}
-use Rattle.search.specs.Trying.{Joins, Limits, costs, Tried}
+use Rattle.search.specs.Search.{nth, colsOf, Given, capsOf, throughOf, joinsOf, DividedByFlow}
+use Rattle.search.specs.inner.Network.{caps, Offsets, Net}
+use Rattle.search.specs.inner.Flows.{Side}
+use Rattle.search.specs.inner.Trying.{Joins, Limits, costs, Tried}
 use Rattle.search.proofs.Reaching.{in-caps, off-none}
 use Rattle.search.proofs.Flows.{none-used, no-flow}
 use Rattle.search.proofs.Trying.{Stands, stand-parts, pow-alone, pow-off, clash}

@@ -13,15 +13,15 @@ use Rattle.taxa.specs.Sets.{has, all, _⊆_, _∩_, _∪_, _∖_, count, multip
 use Rattle.taxa.proofs.Digits.{has-none}
 use Rattle.taxa.proofs.Counts.{count-in, count-insert}
 use Rattle.taxa.proofs.Members.{below, in-insert, in-remove, in∩, in∖, out, same-bool, disjoint-∩, ∩-disjoint, ⊆-refl, ⊆-≤, in-all}
-use Rattle.method.proofs.Carry.{up, down, room, most, carry}
-use Rattle.search.specs.Workspace.{IsColumn, HasPlace, outs, inns}
-use Rattle.method.proofs.HopTree.{Joined}
-use Rattle.search.specs.Network.{nth, arc, caps, Pair, Ready}
-use Rattle.search.specs.Reaching.{fromOf, viaOf, turnOf, widthOf, carried, IsGate, Rooted, Grow, Leads, Offered, stays, joins, Passed, Crossed, Missed, Swept, Planted, Found}
+use Rattle.method.proofs.Carry.{up, down, room, most, carry, same?, carry-up, carry-open}
+use Rattle.search.specs.inner.Places.{IsColumn, HasPlace}
+use Rattle.search.specs.Workspace.{outs, inns}
+use Rattle.method.proofs.HopTree.{Joined, reached}
+use Rattle.search.specs.Search.{nth}
+use Rattle.search.specs.inner.Network.{arc, caps, Pair, Ready}
+use Rattle.search.specs.inner.Reaching.{fromOf, viaOf, turnOf, widthOf, carried, IsGate, Rooted, Grow, Leads, Offered, stays, joins, Passed, Crossed, Missed, Swept, Planted, Found}
 use Rattle.search.proofs.Workspace.{slot-lt, column-place}
-use Rattle.method.proofs.Carry.{same?, carry-up, carry-open}
 use Rattle.method.proofs.Sources.{true?}
-use Rattle.method.proofs.HopTree.{reached}
 use Rattle.method.proofs.Sweep.{leads-open, leads-full, send-start, send-end, send-keeps, send-join}
 
 max-swap : (x y z : ℕ) → max (max x z) y ≡ max (max x y) z

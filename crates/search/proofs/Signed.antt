@@ -11,7 +11,8 @@ use lib.Pow.{pow-pos}
 use mir.Syntax.{Width}
 use mir.Val.{SFits, hbits}
 use borrow.Author.Tests.{ltb-true, ltb-false}
-use Rattle.search.specs.Signed.{outOf, innOf, Diff}
+use Rattle.search.specs.Signed.{outOf, innOf}
+use Rattle.search.specs.inner.Places.{Diff}
 
 pub itself : (z : ℤ) → Diff (outOf z) (innOf z) z
 itself (pos n) = omega arith

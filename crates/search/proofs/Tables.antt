@@ -6,7 +6,7 @@ use mathlib.Core.Logic.{⊎-elim}
 use native.Mathlib.Omega.{arith}
 use lib.ListN.{length, set, length-set}
 use lib.Seq.{getD-set-same, getD-set-other}
-use Rattle.search.specs.Network.{nth}
+use Rattle.search.specs.Search.{nth}
 use Rattle.method.proofs.Carry.{same?}
 
 -- The places below c have what f says.

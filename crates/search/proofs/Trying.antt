@@ -17,14 +17,15 @@ use Rattle.taxa.proofs.Sums.{sum-≤, sum-≡, sum-*}
 use Rattle.taxa.proofs.Insides.{inside-term}
 use Rattle.taxa.proofs.Members.{all-<, in-all, in-pow, pow-in, in-pos, out, in∩, ∩-≤, below, low-in, low-width}
 use Rattle.method.specs.Flow.{cut as cutIn, start}
-use Rattle.method.specs.Sources.{FlowFrom}
+use Rattle.method.specs.inner.Sources.{FlowFrom}
 use Rattle.method.proofs.Sources.{true?, Alone, only, only-alone, alone-off}
 use Rattle.method.proofs.Cuts.{weak-from, full-from}
 use Rattle.method.proofs.Carry.{same?}
 use Rattle.search.specs.Workspace.{outs, inns}
-use Rattle.search.specs.Network.{nth, caps, Net}
-use Rattle.search.specs.Flows.{Side, Largest}
-use Rattle.search.specs.Trying.{tie, ties, weighs, Weighed, Loose, costs, Parts, AtLeast, Met, Trying, Tried}
+use Rattle.search.specs.Search.{nth}
+use Rattle.search.specs.inner.Network.{caps, Net}
+use Rattle.search.specs.inner.Flows.{Side, Largest}
+use Rattle.search.specs.inner.Trying.{tie, ties, weighs, Weighed, Loose, costs, Parts, AtLeast, Met, Trying, Tried}
 use Rattle.search.proofs.Reaching.{caps-in}
 use Rattle.search.proofs.Flows.{cut-alone}
 

@@ -13,9 +13,11 @@ use lib.ListN.{length, getD, set, drop, replicate, length-set, length-append, le
 use lib.Seq.{getD-set-same, getD-set-other, drop-set-lt}
 use Rattle.taxa.specs.Sets.{has, count, sizes}
 use Rattle.taxa.proofs.Ranks.{rank-less, sizes-next, sizes-mono}
-use Rattle.search.specs.Signed.{outOf, innOf, Diff}
-use Rattle.search.specs.Workspace.{slot, IsColumn, netFlow, outs, inns, cleared, sent, Clear, Kept, CanSend}
-use Rattle.search.specs.Network.{nth, CanHop}
+use Rattle.search.specs.Signed.{outOf, innOf}
+use Rattle.search.specs.inner.Places.{Diff, IsColumn, sent, Clear, CanSend}
+use Rattle.search.specs.Workspace.{slot, netFlow, outs, inns, cleared, Kept}
+use Rattle.search.specs.Search.{nth}
+use Rattle.search.specs.inner.Network.{CanHop}
 use Rattle.method.proofs.Carry.{Hopped}
 use Rattle.search.proofs.Signed.{add, sub}
 

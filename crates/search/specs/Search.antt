@@ -5,12 +5,15 @@ use mathlib.Core.List.{List}
 use mathlib.Core.Logic.{_↔_}
 use Prim.Native.Nat.{ℕ, _^_, _≤_, _<_}
 use lib.IntN.{ℤ}
-use lib.ListN.{length}
+use lib.ListN.{length, getD}
 use Rattle.taxa.specs.Sets.{has, count, low, Positive, multiplicityIn, Tabled}
 use Rattle.method.specs.Split.{Column, divisionCost, side, parted}
 use Rattle.method.specs.Flow.{joined, cap, through, Flow, Reach}
 use Rattle.search.specs.Workspace.{outs, inns}
-use Rattle.search.specs.Network.{nth}
+
+-- Entry x of a list; past its end, 0.
+abbrev pub nth : List ℕ → ℕ → ℕ
+nth l x = getD l x 0
 
 -- The columns whose weights, ones and zeros are in the lists W, O and Z.
 unfoldable pub colsOf : List ℕ → List ℕ → List ℕ → ℕ → Column
@@ -27,6 +30,18 @@ pub record Given (W P O Z : List ℕ) (S n m : ℕ) : Type 0 where
   pub two : 1 < count n S
   pub positive : Positive (multiplicityIn P)
   pub tabled : Tabled P
+
+-- The lent lists that the search counts in and grows its tree in: their room.
+pub record Spare (U Y : List ℕ) : Type 0 where
+  pub counts : length U ≡ 256
+  pub tree : length Y ≡ 256
+
+-- All lent lists of the search.
+pub record Lent (J L F U Y : List ℕ) : Type 0 where
+  pub joins : length J ≡ 256
+  pub limits : length L ≡ 320
+  pub offsets : length F ≡ 257
+  pub spare : Spare U Y
 
 module _ (W P O Z : List ℕ) (S n m : ℕ) where
   -- "Arcs between a taxon of S and its columns [..] carry at most w", times the taxon's multiplicity.

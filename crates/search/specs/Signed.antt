@@ -1,6 +1,5 @@
 -- A net flow is signed: "positive into the column, negative out of it". It is told by two numbers, of which at most one is above 0.
-use mathlib.Core.Path.{_≡_}
-use Prim.Native.Nat.{ℕ, suc, _-_}
+use Prim.Native.Nat.{ℕ, suc}
 use lib.IntN.{ℤ, pos, negsuc}
 
 -- What goes out of the taxon into the column.
@@ -12,8 +11,3 @@ outOf (negsuc n) = 0
 abbrev pub innOf : ℤ → ℕ
 innOf (pos n) = 0
 innOf (negsuc n) = suc n
-
--- z is a - b.
-pub record Diff (a b : ℕ) (z : ℤ) : Type 0 where
-  pub out : outOf z ≡ a - b
-  pub inn : innOf z ≡ b - a

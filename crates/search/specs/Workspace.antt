@@ -3,27 +3,15 @@
 use mathlib.Core.Path.{_≡_}
 use mathlib.Core.Bool.{cond}
 use mathlib.Core.List.{List, _++_}
-use mathlib.Core.Logic.{_≢_}
-use Prim.Native.Nat.{ℕ, _+_, _-_, _^_, _≤_, _<_}
-use lib.IntN.{ℤ, pos, _+ℤ_, _-ℤ_}
-use lib.ListN.{length, getD, set, drop, replicate}
+use Prim.Native.Nat.{ℕ, _+_}
+use lib.IntN.{ℤ, pos}
+use lib.ListN.{length, getD, drop, replicate}
 use Rattle.taxa.specs.Sets.{has, count, sizes}
 use Rattle.search.specs.Signed.{outOf, innOf}
 
 -- The place of the pair of column c and a taxon i that it joins: after all pairs of the columns before it, and those of its lower taxa.
 unfoldable pub slot : (ℕ → ℕ) → ℕ → ℕ → ℕ
 slot row c i = sizes c row + count i (row c)
-
--- What column c joins, and where its places start.
-pub record IsColumn (row : ℕ → ℕ) (c joined offset : ℕ) : Type 0 where
-  pub is-joined : joined ≡ row c
-  pub is-offset : offset ≡ sizes c row
-
--- Taxon i has a place in the workspace, in a column that joins `joined` and whose places start at `offset`.
-pub record HasPlace (ws : List ℤ) (joined offset i : ℕ) : Type 0 where
-  pub taxon : i < 64
-  pub near : offset < 65536
-  pub place : offset + count i joined < length ws
 
 -- The net flow of a pair of column c and taxon i; of one that is not joined, none.
 unfoldable pub netFlow : List ℤ → (ℕ → ℕ) → ℕ → ℕ → ℤ
@@ -41,24 +29,7 @@ inns ws row c i = innOf (netFlow ws row c i)
 abbrev pub cleared : ℕ → List ℤ → List ℤ
 cleared k ws = replicate k (pos 0) ++ drop k ws
 
--- The first k numbers are 0.
-pub record Clear (k : ℕ) (ws : List ℤ) : Type 0 where
-  pub long : k ≤ length ws
-  pub is : cleared k ws ≡ ws
-
 -- Only the first k numbers may have changed.
 pub record Kept (k : ℕ) (ws ws′ : List ℤ) : Type 0 where
   pub long : length ws′ ≡ length ws
   pub rest : drop k ws′ ≡ drop k ws
-
--- d more from place a to place b.
-abbrev pub sent : List ℤ → ℕ → ℕ → ℕ → List ℤ
-sent ws a b d = set (set ws a (getD ws a (pos 0) +ℤ pos d)) b (getD ws b (pos 0) -ℤ pos d)
-
--- What that asks.
-pub record CanSend (ws : List ℤ) (a b d : ℕ) : Type 0 where
-  pub from : a < length ws
-  pub to : b < length ws
-  pub apart : a ≢ b
-  pub out : outOf (getD ws a (pos 0)) + d < 2 ^ 31
-  pub inn : innOf (getD ws b (pos 0)) + d < 2 ^ 31

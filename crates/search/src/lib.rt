@@ -14,10 +14,10 @@ ghost use lib.ListN.{length};
 ghost use Rattle.taxa.specs.Sets.{count, sizes, low};
 ghost use Rattle.method.specs.Flow.{arcCount};
 ghost use Rattle.search.specs.Workspace.{cleared, Kept};
-ghost use Rattle.search.specs.Network.{nth, Offsets, Net, Spare, Lent};
-ghost use Rattle.search.specs.Flows.{Side};
-ghost use Rattle.search.specs.Search.{colsOf, Given, DividedByFlow};
-ghost use Rattle.search.specs.Trying.{Ties, Weighed, Joins, Limits, Trying, Tried, NetworkDivided};
+ghost use Rattle.search.specs.Search.{nth, Spare, Lent, colsOf, Given, DividedByFlow};
+ghost use Rattle.search.specs.inner.Network.{Offsets, Net};
+ghost use Rattle.search.specs.inner.Flows.{Side};
+ghost use Rattle.search.specs.inner.Trying.{Ties, Weighed, Joins, Limits, Trying, Tried, NetworkDivided};
 
 // x, unless z is empty.
 fn unless_none(z: u64, x: u64) -> u64

@@ -5,9 +5,11 @@ ghost use Prim.Native.Nat.{ℕ, _+_, _≤_, _<_, _^_};
 ghost use lib.IntN.{pos, _+ℤ_, _-ℤ_};
 ghost use lib.ListN.{length, getD, set};
 ghost use Rattle.taxa.specs.Sets.{has, count, sizes};
-ghost use Rattle.search.specs.Signed.{outOf, innOf, Diff};
-ghost use Rattle.search.specs.Workspace.{IsColumn, HasPlace, outs, inns, cleared, sent, CanSend, Kept};
-ghost use Rattle.search.specs.Network.{nth, CanHop};
+ghost use Rattle.search.specs.Signed.{outOf, innOf};
+ghost use Rattle.search.specs.inner.Places.{Diff, IsColumn, HasPlace, sent, CanSend};
+ghost use Rattle.search.specs.Workspace.{outs, inns, cleared, Kept};
+ghost use Rattle.search.specs.Search.{nth};
+ghost use Rattle.search.specs.inner.Network.{CanHop};
 ghost use Rattle.method.proofs.Carry.{Hopped};
 
 // What goes out, where f is a flow out, or nothing.

@@ -8,8 +8,9 @@ ghost use lib.ListN.{length};
 ghost use Rattle.taxa.specs.Sets.{has, sizes};
 ghost use Rattle.search.specs.Workspace.{outs, inns, Kept};
 ghost use Rattle.method.proofs.Carry.{Hopped};
-ghost use Rattle.search.specs.Network.{nth, CanHop, Net, Spare, Unused};
-ghost use Rattle.search.specs.Flows.{CanCount, Counted, Flowing, Advanced, Largest};
+ghost use Rattle.search.specs.Search.{nth, Spare};
+ghost use Rattle.search.specs.inner.Network.{CanHop, Net, Unused};
+ghost use Rattle.search.specs.inner.Flows.{CanCount, Counted, Flowing, Advanced, Largest};
 
 // d more from taxon i to taxon j through column c, and the count of what runs through it with that.
 fn step(

@@ -7,9 +7,10 @@ ghost use mathlib.Core.Bool.{true, false};
 ghost use Prim.Native.Nat.{_+_, _-_, _*_, _≤_, _<_, _^_, min, max};
 ghost use lib.ListN.{length};
 ghost use Rattle.taxa.specs.Sets.{has, _⊆_, multiplicityIn, Tabled};
-ghost use Rattle.search.specs.Network as network;
-ghost use Rattle.search.specs.Network.{nth, Ready};
-ghost use Rattle.search.specs.Reaching.{turnOf, IsGate, Rooted, Leads, Offered, Passed, Crossed, Missed, Swept, Planted, Found};
+ghost use Rattle.search.specs.inner.Network as network;
+ghost use Rattle.search.specs.Search.{nth};
+ghost use Rattle.search.specs.inner.Network.{Ready};
+ghost use Rattle.search.specs.inner.Reaching.{turnOf, IsGate, Rooted, Leads, Offered, Passed, Crossed, Missed, Swept, Planted, Found};
 
 // In place of a taxon: none.
 pub const NOBODY: usize = 64;

@@ -8,8 +8,9 @@ ghost use mathlib.Core.Bool.{true};
 ghost use Prim.Native.Nat.{ℕ, _+_, _≤_, _<_};
 ghost use lib.ListN.{length};
 ghost use Rattle.taxa.specs.Sets.{has, count, Tabled};
-ghost use Rattle.search.specs.Network.{nth, weightMost};
-ghost use Rattle.search.specs.Trying.{Ties, Weighed, sumMost, Few, SameLimits, ColumnAdded, Added, Loose};
+ghost use Rattle.search.specs.Search.{nth};
+ghost use Rattle.search.specs.inner.Network.{weightMost};
+ghost use Rattle.search.specs.inner.Trying.{Ties, Weighed, sumMost, Few, SameLimits, ColumnAdded, Added, Loose};
 
 // Where the ties start, and where they end.
 pub const TIES: usize = 256;

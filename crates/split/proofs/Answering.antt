@@ -26,9 +26,10 @@ use Rattle.search.specs.Workspace.{cleared}
 use Rattle.search.proofs.Workspace.{clear-less, cleared-clear}
 use Rattle.split.specs.declared.Divided.{Divided as Answer}
 use Rattle.split.specs.declared.Divided.the-variants.{Taken, Refused}
-use Rattle.split.specs.Columns.{Parallel, matrixIn}
+use Rattle.split.specs.inner.Handing.{Parallel, Splittable}
+use Rattle.split.specs.Columns.{matrixIn}
 use Rattle.split.specs.Groups.{IsSplit}
-use Rattle.split.specs.Operation.{Splittable, splitOf, noGroup, answered, divided, workspaceAfter, returned, splitNumbers}
+use Rattle.split.specs.Operation.{splitOf, noGroup, answered, divided, workspaceAfter, returned, splitNumbers}
 use Rattle.split.proofs.Soundness.{taken-count, few-taxa, few-columns}
 
 -- ---- the rows of the table

@@ -12,7 +12,7 @@ use Rattle.taxa.proofs.Counts.{units, count-in, count-<, count-le}
 use Rattle.method.specs.Split.{Column, part, partsOf, parts}
 use Rattle.method.proofs.Parts.{part-is}
 use Rattle.search.specs.Search.{colsOf}
-use Rattle.split.specs.Parts.{Listed}
+use Rattle.split.specs.inner.Parts.{Listed}
 
 -- ---- the method's list, with fuel f, of a set that is empty and of one that is not
 

@@ -14,9 +14,9 @@ use Rattle.method.proofs.Width.{cost-width, side-width, parted-width}
 use Rattle.search.specs.Search.{colsOf, Given, DividedByFlow}
 use Rattle.search.specs.Workspace.{cleared, Kept}
 use Rattle.search.proofs.Workspace.{cleared-again}
-use Rattle.split.specs.Columns.{Parallel}
-use Rattle.split.specs.Parts.{Listed}
-use Rattle.split.specs.Groups.{IsSplit, HandsOn}
+use Rattle.split.specs.inner.Handing.{Parallel, HandsOn}
+use Rattle.split.specs.inner.Parts.{Listed}
+use Rattle.split.specs.Groups.{IsSplit}
 
 module _ {ws P os zs : List ℕ} {S n m : ℕ} (g : Given ws P os zs S n m) where
   pub found-split : {flows : List ℤ} {cost t A : ℕ} → DividedByFlow ws P os zs S n m flows cost t A → IsSplit (multiplicityIn P) m (colsOf ws os zs) S cost A t

@@ -13,7 +13,8 @@ use Rattle.method.specs.Split.{Column, raise, lower, flip, flipped}
 use Rattle.method.proofs.Flips.{Flip, up, left, right, flip-is}
 use Rattle.method.proofs.Entries.{flip-weight}
 use Rattle.search.specs.Search.{colsOf}
-use Rattle.split.specs.Columns.{columnOf, Parallel}
+use Rattle.split.specs.Columns.{columnOf}
+use Rattle.split.specs.inner.Handing.{Parallel}
 use Rattle.split.proofs.Filling.{Filled, fill-one, fill-all}
 
 -- ---- the rows of the method's table

@@ -18,7 +18,7 @@ use Rattle.method.specs.Split.{Column, share, Linked, start, step, part}
 use Rattle.method.proofs.Parts.{Apart, part-is}
 use Rattle.method.proofs.Links.{linked-part}
 use Rattle.search.specs.Search.{colsOf}
-use Rattle.split.specs.Parts.{grown, swept}
+use Rattle.split.specs.inner.Parts.{grown, swept}
 
 -- ---- the cases of what a column adds
 

@@ -13,7 +13,8 @@ use Rattle.matrix.proofs.Taken.{column-of}
 use Rattle.method.specs.Split.{Column}
 use Rattle.method.specs.Tree.{column}
 use Rattle.search.specs.Search.{colsOf}
-use Rattle.split.specs.Columns.{columnOf, Parallel, matrixIn}
+use Rattle.split.specs.Columns.{columnOf, matrixIn}
+use Rattle.split.specs.inner.Handing.{Parallel}
 use Rattle.split.proofs.Filling.{Filled, fill-one, fill-all}
 
 abbrev pub blank : matrix.Column

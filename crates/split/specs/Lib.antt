@@ -1,5 +1,5 @@
 -- One split in code: what its names mean.
 pub mod Columns
-pub mod Parts
 pub mod Groups
 pub mod Operation
+pub mod inner

@@ -2,11 +2,11 @@
 use mathlib.Core.Path.{_≡_}
 use mathlib.Core.Bool.{Bool, _||_, not, cond}
 use mathlib.Core.List.{List}
-use Prim.Native.Nat.{ℕ, _≤_}
+use Prim.Native.Nat.{ℕ}
 use lib.Dec.{ltb}
 use lib.IntN.{ℤ}
 use lib.ListN.{length}
-use Rattle.taxa.specs.Sets.{_⊆_, within, multiplicity, count, all}
+use Rattle.taxa.specs.Sets.{within, multiplicity, count, all}
 use Rattle.record.specs.Records.{refused}
 use Rattle.matrix.specs.declared.Checked.{Checked}
 use Rattle.matrix.specs.declared.Checked.the-variants as checks
@@ -72,10 +72,3 @@ pub record Splits (file : List ℕ) (S : ℕ) (ws : List ℤ) (r : Divided) (ws�
   pub answers : r ≡ divided file S (length ws)
   pub numbers : returned r ≡ splitNumbers file S (length ws)
   pub workspace : ws′ ≡ workspaceAfter file r ws
-
--- What has been tested where nothing is refused.
-pub record Splittable (file : List ℕ) (S n m room : ℕ) : Type 0 where
-  pub taken : checks.Taken n m ≡ checked file
-  pub two : 2 ≤ count 64 S
-  pub known : S ⊆ all n
-  pub long : oneEntries (matrixIn file) ≤ room

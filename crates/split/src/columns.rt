@@ -8,7 +8,8 @@ ghost use Rattle.matrix.specs.Matrix.{columnsAt};
 ghost use Rattle.method.specs.Split as method;
 ghost use Rattle.method.specs.Tree.{column, oneEntries};
 ghost use Rattle.search.specs.Search.{colsOf};
-ghost use Rattle.split.specs.Columns.{columnOf, Parallel, matrixIn};
+ghost use Rattle.split.specs.Columns.{columnOf, matrixIn};
+ghost use Rattle.split.specs.inner.Handing.{Parallel};
 
 // The columns of a file that the check takes.
 pub fn load(file: &[u8], weights: &mut [u16], ones: &mut [u64], zeros: &mut [u64])

@@ -7,11 +7,10 @@ ghost use Prim.Native.Nat.{_≤_};
 ghost use lib.ListN.{length};
 ghost use Rattle.taxa.specs.Sets.{multiplicityIn, count};
 ghost use Rattle.method.specs.Flow.{arcCount};
-ghost use Rattle.search.specs.Search.{colsOf, Given};
-ghost use Rattle.search.specs.Network.{Lent};
+ghost use Rattle.search.specs.Search.{colsOf, Given, Lent};
 ghost use Rattle.search.specs.Workspace.{cleared};
-ghost use Rattle.split.specs.Columns.{Parallel};
-ghost use Rattle.split.specs.Groups.{IsSplit, HandsOn};
+ghost use Rattle.split.specs.inner.Handing.{Parallel, HandsOn};
+ghost use Rattle.split.specs.Groups.{IsSplit};
 
 // The division that document 01 takes. The search's flow is cleared away.
 pub fn divide(

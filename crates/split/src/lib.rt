@@ -13,8 +13,9 @@ ghost use Rattle.matrix.specs.Check.{checked};
 ghost use Rattle.matrix.specs.declared.Checked.the-variants as checks;
 ghost use Rattle.method.specs.Tree.{oneEntries};
 ghost use Rattle.search.specs.Workspace.{cleared};
-ghost use Rattle.split.specs.Columns.{Parallel, matrixIn};
-ghost use Rattle.split.specs.Operation.{Splittable, splitOf, answered, workspaceAfter, Splits};
+ghost use Rattle.split.specs.inner.Handing.{Parallel, Splittable};
+ghost use Rattle.split.specs.Columns.{matrixIn};
+ghost use Rattle.split.specs.Operation.{splitOf, answered, workspaceAfter, Splits};
 
 // What the split answers: the division's cost, its side A and the taxon t, or the refusal.
 pub enum Divided {

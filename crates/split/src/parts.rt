@@ -6,7 +6,7 @@ ghost use lib.ListN.{length};
 ghost use Rattle.taxa.specs.Sets.{_∈_, Positive, count};
 ghost use Rattle.method.specs.Split as method;
 ghost use Rattle.search.specs.Search.{colsOf};
-ghost use Rattle.split.specs.Parts.{grown, swept, Listed};
+ghost use Rattle.split.specs.inner.Parts.{grown, swept, Listed};
 
 // The taxa met, with those that a column joins to one of them.
 fn grow(ones: u64, zeros: u64, group: u64, met: u64) -> u64

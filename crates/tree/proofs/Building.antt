@@ -31,13 +31,15 @@ use Rattle.method.proofs.Promises as promises
 use Rattle.search.specs.Workspace.{cleared}
 use Rattle.search.specs.Search.{colsOf}
 use Rattle.search.proofs.Workspace.{clear-less, cleared-clear}
-use Rattle.split.specs.Columns.{Parallel, matrixIn}
+use Rattle.split.specs.inner.Handing.{Parallel}
+use Rattle.split.specs.Columns.{matrixIn}
 use Rattle.split.proofs.Soundness.{taken-count, taken-known, few-taxa, few-columns, can-load, taken-sound}
 use Rattle.tree.specs.declared.Built.{Built}
 use Rattle.tree.specs.declared.Built.the-variants.{Refused}
-use Rattle.tree.specs.Lists.{firstGroups, Room, unweighed}
-use Rattle.tree.specs.Grow.{entriesFor, LentLists, arcsIn, Ready, Grown, walkFrom, Walked, Answers}
-use Rattle.tree.specs.Build.{contentWith, contentFor, roomFor, takenOf, Buildable, answered, built, outputAfter, workspaceAfter, returned, buildNumbers}
+use Rattle.tree.specs.Lists.{firstGroups}
+use Rattle.tree.specs.inner.Lists.{Room, unweighed}
+use Rattle.tree.specs.inner.Grow.{entriesFor, LentLists, arcsIn, Ready, Grown, walkFrom, Walked, Answers, Buildable}
+use Rattle.tree.specs.Build.{contentWith, contentFor, roomFor, takenOf, answered, built, outputAfter, workspaceAfter, returned, buildNumbers}
 use Rattle.tree.proofs.Rules.{answer-lawful, answer-fits, flips-few}
 
 -- The flip list asks for no weight, and for no column past the last.

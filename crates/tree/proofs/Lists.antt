@@ -17,7 +17,8 @@ use Rattle.taxa.specs.Sets.{_∩_}
 use Rattle.method.specs.Split.{Column}
 use Rattle.method.specs.Tree.{Group, Flips, kept, ordered, flipsOf, flipList, total}
 use Rattle.method.proofs.Walks.{total-++}
-use Rattle.tree.specs.Lists.{firstGroups, startsAt, firstFlips, FlipRoom, SameFrom, unflipped}
+use Rattle.tree.specs.Lists.{firstGroups, firstFlips}
+use Rattle.tree.specs.inner.Lists.{startsAt, FlipRoom, SameFrom, unflipped}
 
 -- ---- elements by their number
 

@@ -14,9 +14,9 @@ use Rattle.method.specs.Tree.{Group, walked, build}
 use Rattle.method.proofs.Arcs.{turn-arcs}
 use Rattle.search.specs.Search.{Given, colsOf}
 use Rattle.search.proofs.Workspace.{clear-less}
-use Rattle.split.specs.Groups.{HandsOn}
-use Rattle.tree.specs.Lists.{Room}
-use Rattle.tree.specs.Grow.{Ready, TurnsClear, Grown, AllSmall}
+use Rattle.split.specs.inner.Handing.{HandsOn}
+use Rattle.tree.specs.inner.Lists.{Room}
+use Rattle.tree.specs.inner.Grow.{Ready, TurnsClear, Grown, AllSmall}
 use Rattle.tree.proofs.Walking.{whole-group, parts-small, ready-wide, node-length}
 
 module _ {ws P os zs : List ℕ} {S n : ℕ} {space : List ℤ} (r : Ready ws P os zs S n space) (two : 1 < count 64 S) where

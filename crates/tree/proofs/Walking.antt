@@ -18,8 +18,8 @@ use Rattle.method.proofs.Order.{split-two, split-beside}
 use Rattle.method.proofs.Parts.{inside-R}
 use Rattle.method.proofs.Splits.{split-parts, part-in}
 use Rattle.search.specs.Search.{colsOf}
-use Rattle.split.specs.Columns.{Parallel}
-use Rattle.tree.specs.Grow.{Loaded, Ready, TurnsClear, Grown, AllSmall}
+use Rattle.split.specs.inner.Handing.{Parallel}
+use Rattle.tree.specs.inner.Grow.{Loaded, Ready, TurnsClear, Grown, AllSmall}
 use Rattle.tree.proofs.Lists.{getD-in}
 
 -- The next set of a list, and those after it.

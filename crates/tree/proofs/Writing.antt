@@ -8,9 +8,10 @@ use Rattle.answer.specs.declared.Written.{Written}
 use Rattle.answer.specs.Content.{Content, contentOf}
 use Rattle.answer.specs.Writing.{Writes}
 use Rattle.tree.specs.declared.Built.{Built}
-use Rattle.tree.specs.Lists.{firstGroups, Room, firstFlips, FlipRoom}
+use Rattle.tree.specs.Lists.{firstGroups, firstFlips}
+use Rattle.tree.specs.inner.Lists.{Room, FlipRoom}
 use Rattle.tree.specs.Build.{contentWith}
-use Rattle.tree.specs.Grow.{writtenAs, Answers}
+use Rattle.tree.specs.inner.Grow.{writtenAs, Answers}
 use Rattle.tree.proofs.Lists.{taxa-of, costs-of, columns-of, raised-of, lowered-of}
 
 module _ {ts cs ns us ds : List ℕ} {g f t : ℕ} {gs : List Group} {fs : List Flips} (n m : ℕ) where

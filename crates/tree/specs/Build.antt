@@ -2,7 +2,7 @@
 use mathlib.Core.Path.{_≡_}
 use mathlib.Core.Bool.{cond}
 use mathlib.Core.List.{List, map}
-use Prim.Native.Nat.{ℕ, _+_, _-_, _*_, _≤_}
+use Prim.Native.Nat.{ℕ, _+_, _-_, _*_}
 use lib.Dec.{ltb}
 use lib.IntN.{ℤ}
 use lib.ListN.{length}
@@ -92,9 +92,3 @@ pub record Builds (file : List ℕ) (ws : List ℤ) (out : List ℕ) (r : Built)
   pub numbers : returned r ≡ buildNumbers file (length ws) (length out)
   pub output : out′ ≡ outputAfter file r out
   pub workspace : ws′ ≡ workspaceAfter file r ws
-
--- What has been tested where nothing is refused.
-pub record Buildable (file : List ℕ) (n m space room : ℕ) : Type 0 where
-  pub taken : checks.Taken n m ≡ checked file
-  pub places : oneEntries (matrixIn file) ≤ space
-  pub fits : roomFor n m ≤ room

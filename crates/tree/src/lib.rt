@@ -20,9 +20,10 @@ ghost use Rattle.search.specs.Workspace.{cleared};
 ghost use Rattle.split.specs.Columns.{matrixIn};
 ghost use Rattle.taxa.specs.Sets.{all};
 ghost use Rattle.method.specs.Tree.{column, oneEntries, ordered, flipList};
-ghost use Rattle.tree.specs.Lists.{firstGroups, Room, unweighed};
-ghost use Rattle.tree.specs.Grow.{entriesFor, LentLists, Ready, Grown, walkFrom, Walked, Answers};
-ghost use Rattle.tree.specs.Build.{contentWith, contentFor, takenOf, Buildable, answered, outputAfter, workspaceAfter, Builds};
+ghost use Rattle.tree.specs.Lists.{firstGroups};
+ghost use Rattle.tree.specs.inner.Lists.{Room, unweighed};
+ghost use Rattle.tree.specs.inner.Grow.{entriesFor, LentLists, Ready, Grown, walkFrom, Walked, Answers, Buildable};
+ghost use Rattle.tree.specs.Build.{contentWith, contentFor, takenOf, answered, outputAfter, workspaceAfter, Builds};
 
 // What the build answers: the length written and the total, or the refusal.
 pub enum Built {

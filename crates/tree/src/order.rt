@@ -10,8 +10,9 @@ ghost use Rattle.taxa.specs.Sets.{low};
 ghost use Rattle.matrix.specs.Matrix.{columnsAt};
 ghost use Rattle.method.specs.Tree.{column, kept, ordered, flipList};
 ghost use Rattle.split.specs.Columns.{matrixIn};
-ghost use Rattle.tree.specs.Lists as lists;
-ghost use Rattle.tree.specs.Lists.{firstGroups, startsAt, Room, firstFlips, FlipRoom, SameFrom, unweighed};
+ghost use Rattle.tree.specs.inner.Lists as lists;
+ghost use Rattle.tree.specs.Lists.{firstGroups, firstFlips};
+ghost use Rattle.tree.specs.inner.Lists.{startsAt, Room, FlipRoom, SameFrom, unweighed};
 
 // One group more, where a test holds. Returns how many there are then.
 pub fn put_group(

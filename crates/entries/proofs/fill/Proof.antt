@@ -38,7 +38,8 @@ use denote.Triple.Table.{entered}
 use denote.Triple.Walked.{says, needs, Stays, stay-slice, stay-none-slice, stay-none, walkOf, goes-slice, goes-none-slice, goes-none, ends-at}
 use denote.Exit.{yes}
 use Rattle.entries.specs.declared.Flip.{Flip}
-use Rattle.entries.specs.Entries.{zipped, withFirst, narrow}
+use Rattle.entries.specs.Entries.{zipped}
+use Rattle.entries.specs.inner.Parts.{withFirst, narrow}
 use Rattle.entries.proofs.Rows.{blank, set-next, length-over, within-over, long-zipped, zipped-at}
 use Rattle.entries.proofs.Lends.{slice, Shared, Mine, Opened, opens, closes}
 use Rattle.entries.proofs.Elements.{number, flip, Seen, sees, start, points, reads-element, writes-element}

@@ -44,7 +44,8 @@ use Rattle.answer.specs.declared.Reading.{Reading}
 use Rattle.answer.proofs.Reading as D
 use Rattle.answer.proofs.Reading.Laws as D′
 use Rattle.entries.specs.declared.Flip.{Flip}
-use Rattle.entries.specs.Entries.{zipped, withFirst, narrow, ReadsEntries, InParts}
+use Rattle.entries.specs.Entries.{zipped, ReadsEntries}
+use Rattle.entries.specs.inner.Parts.{withFirst, narrow, InParts}
 use Rattle.entries.proofs.Rows.{length-over, long-zipped}
 use Rattle.entries.proofs.Reading.{parts-read}
 use Rattle.entries.proofs.Lends.{slice, Shared, copies, Mine, Opened, opens, closes, lent-at, Tok, Lent, Kept, lends, comes-back}

@@ -39,7 +39,8 @@ use denote.Triple.Table.{entered}
 use denote.Triple.Walked.{says, needs, Stays, stay-slice, stay-none-slice, stay-none, walkOf, goes-slice, goes-none-slice, goes-none, ends-at}
 use denote.Exit.{yes}
 use Rattle.entries.specs.declared.Flip.{Flip}
-use Rattle.entries.specs.Entries.{entryColumns, entryRaised, entryLowered, withFirst}
+use Rattle.entries.specs.Entries.{entryColumns, entryRaised, entryLowered}
+use Rattle.entries.specs.inner.Parts.{withFirst}
 use Rattle.entries.proofs.Rows.{blank, set-copied, length-copied, within-copied}
 use Rattle.entries.proofs.Lends.{slice, Shared, Mine, Opened, opens, closes}
 use Rattle.entries.proofs.Elements.{number, flip, Seen, sees, start, points, reads-element, writes-element}

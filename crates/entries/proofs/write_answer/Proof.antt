@@ -49,7 +49,8 @@ use Rattle.answer.proofs.Answer.Laws as An′
 use Rattle.answer.proofs.Written as E
 use Rattle.answer.proofs.Written.Laws as E′
 use Rattle.entries.specs.declared.Flip.{Flip}
-use Rattle.entries.specs.Entries.{entryColumns, entryRaised, entryLowered, withFirst, WritesEntries}
+use Rattle.entries.specs.Entries.{entryColumns, entryRaised, entryLowered, WritesEntries}
+use Rattle.entries.specs.inner.Parts.{withFirst}
 use Rattle.entries.proofs.Rows.{length-copied}
 use Rattle.entries.proofs.Writing.{parts-written}
 use Rattle.entries.proofs.Lends.{slice, Shared, copies, Mine, Opened, opens, closes, lent-at, Tok, Lent, Kept, lends, comes-back}

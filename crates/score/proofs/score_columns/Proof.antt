@@ -6,7 +6,8 @@ use Prim.Native.Nat.{_-_, _*_, _≤_}
 use Rattle.taxa.specs.Sum.{sum}
 use Rattle.taxa.specs.Sets.{multiplicityIn}
 use Rattle.matrix.specs.Matrix.{columnIn}
-use Rattle.score.specs.Score.{nodeFor, raisesOf, lowersOf, columnMost}
+use Rattle.score.specs.Score.{nodeFor, raisesOf, lowersOf}
+use Rattle.score.specs.inner.Light.{columnMost}
 use Rattle.score.proofs.Columns.{raises-next, lowers-next}
 use Rattle.score.proofs.score_columns.Statement.{statement}
 use Rattle.score.proofs.score_columns.Tie as tie

@@ -6,8 +6,8 @@ use mathlib.Core.Path.{_≡_, sym, _∙_}
 use mathlib.Core.Bool.{true}
 use Rattle.taxa.specs.Sets.{has, all, _∩_, sizes}
 use Rattle.taxa.proofs.Members.{in-pos, low-in}
-use Rattle.search.specs.Network.{nth}
-use Rattle.search.specs.Flows.{Largest}
+use Rattle.search.specs.Search.{nth}
+use Rattle.search.specs.inner.Flows.{Largest}
 use Rattle.search.proofs.Workspace.{kept-none}
 use Rattle.search.proofs.Trying.{lower-fits, lower-off, lower-in, tried-skip, tried-tied, tried-better, tried-worse}
 use Rattle.search.proofs.attempt.Statement.{statement}

@@ -7,8 +7,8 @@ use Rattle.taxa.specs.Sets.{count, sizes, low}
 use Rattle.taxa.proofs.Counts.{count-pos, count-width}
 use Rattle.taxa.proofs.Members.{below, low-in, low-≤, low-width}
 use Rattle.search.specs.Workspace.{Kept}
-use Rattle.search.specs.Network.{nth, Spare}
-use Rattle.search.specs.Trying.{Trying}
+use Rattle.search.specs.Search.{nth, Spare}
+use Rattle.search.specs.inner.Trying.{Trying}
 use Rattle.search.proofs.Workspace.{kept-none, kept-then}
 use Rattle.search.proofs.Bonds.{weighs-small}
 use Rattle.search.proofs.Trying.{trying-start, trying-end}

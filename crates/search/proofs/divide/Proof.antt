@@ -11,10 +11,10 @@ use Rattle.taxa.specs.Sets.{sizes, low}
 use Rattle.taxa.proofs.Counts.{count-pos}
 use Rattle.taxa.proofs.Members.{below}
 use Rattle.method.specs.Flow.{arcCount}
-use Rattle.search.specs.Search.{colsOf}
+use Rattle.search.specs.Search.{colsOf, nth, Spare, Lent}
 use Rattle.search.specs.Workspace.{Kept}
-use Rattle.search.specs.Network.{nth, Net, Spare, Lent}
-use Rattle.search.specs.Trying.{Limits}
+use Rattle.search.specs.inner.Network.{Net}
+use Rattle.search.specs.inner.Trying.{Limits}
 use Rattle.search.proofs.Workspace.{cleared-kept, kept-then}
 use Rattle.search.proofs.Bonds.{limits-still}
 use Rattle.search.proofs.Group.{source-is, net, arcs-are, divided-free}

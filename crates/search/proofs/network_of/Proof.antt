@@ -12,7 +12,7 @@ use borrow.Author.Tests.{lt-ltb, le-ltb}
 use Rattle.taxa.specs.Sets.{_∩_, mass, count, multiplicityIn}
 use Rattle.taxa.proofs.Counts.{count-pos, count-zero}
 use Rattle.taxa.proofs.Members.{∩-≤}
-use Rattle.search.specs.Network.{nth}
+use Rattle.search.specs.Search.{nth}
 use Rattle.search.proofs.Tables.{Table, table-start, table-next}
 use Rattle.search.proofs.network_of.Statement.{statement}
 use Rattle.search.proofs.network_of.Tie as tie

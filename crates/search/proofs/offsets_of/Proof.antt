@@ -6,7 +6,7 @@ use Prim.Native.Nat.{ℕ, _+_, _-_, _≤_}
 use Rattle.taxa.specs.Sum.{sum}
 use Rattle.taxa.specs.Sets.{sizes}
 use Rattle.taxa.proofs.Ranks.{sizes-next, sizes-few}
-use Rattle.search.specs.Network.{nth}
+use Rattle.search.specs.Search.{nth}
 use Rattle.search.proofs.Tables.{Table, table-start, table-next}
 use Rattle.search.proofs.offsets_of.Statement.{statement}
 use Rattle.search.proofs.offsets_of.Tie as tie

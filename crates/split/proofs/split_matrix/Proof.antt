@@ -9,7 +9,7 @@ use borrow.Author.Tests.{not-true, not-false}
 use Rattle.taxa.specs.Sets.{within, all}
 use Rattle.taxa.proofs.Members.{within-⊆}
 use Rattle.record.specs.Bytes.{File}
-use Rattle.split.specs.Operation.{Splittable}
+use Rattle.split.specs.inner.Handing.{Splittable}
 use Rattle.split.proofs.Soundness.{few-taxa, few-columns, can-load}
 use Rattle.split.proofs.Answering.{one-taxon, unknown-taxon, no-room, all-tested, cleared-after, left-alone}
 use Rattle.split.proofs.split_matrix.Statement.{statement}

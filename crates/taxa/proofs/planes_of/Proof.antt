@@ -5,7 +5,8 @@ use native.Mathlib.Decide.{decLt}
 use native.Mathlib.Omega.{arith}
 use lib.ListN.{length, getD, set, length-set}
 use lib.Seq.{getD-set-same, getD-set-other}
-use Rattle.taxa.specs.Sets.{multiplicity, Placed}
+use Rattle.taxa.specs.Sets.{multiplicity}
+use Rattle.taxa.specs.inner.Planes.{Placed}
 use Rattle.taxa.proofs.Planes.{planes-hold}
 use Rattle.taxa.proofs.planes_of.Statement.{statement}
 use Rattle.taxa.proofs.planes_of.Tie as tie

@@ -12,7 +12,7 @@ use Rattle.matrix.proofs.Taken.{taken-multiplied}
 use Rattle.method.specs.Tree.{column}
 use Rattle.search.specs.Search.{colsOf}
 use Rattle.split.specs.Columns.{matrixIn}
-use Rattle.tree.specs.Grow.{entriesFor}
+use Rattle.tree.specs.inner.Grow.{entriesFor}
 use Rattle.split.proofs.Soundness.{can-load, few-columns, read-multiplicities}
 use Rattle.tree.proofs.Building.{front-fits, still-long, lent-columns, lent-ready, lent-room, to-write, built-content, answers-all}
 use Rattle.tree.proofs.build_loaded.Statement.{statement}

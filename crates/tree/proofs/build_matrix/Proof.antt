@@ -5,7 +5,7 @@ use mathlib.Core.Path.{refl}
 use lib.ListN.{length}
 use Rattle.record.specs.Bytes.{File}
 use Rattle.split.proofs.Soundness.{few-columns, can-load}
-use Rattle.tree.specs.Build.{Buildable}
+use Rattle.tree.specs.inner.Grow.{Buildable}
 use Rattle.tree.proofs.Building.{some-taxa, no-space, no-output, taken-row, output-left, workspace-left}
 use Rattle.tree.proofs.build_matrix.Statement.{statement}
 use Rattle.tree.proofs.build_matrix.Tie as tie

@@ -9,7 +9,8 @@ use Rattle.split.specs.Columns.{matrixIn}
 use Rattle.answer.specs.Content.{contentOf}
 use Rattle.answer.specs.Reading.{listed}
 use Rattle.tree.specs.declared.Built.the-variants.{Taken}
-use Rattle.tree.specs.Lists.{firstGroups, unweighed}
+use Rattle.tree.specs.Lists.{firstGroups}
+use Rattle.tree.specs.inner.Lists.{unweighed}
 use Rattle.tree.specs.Build.{contentWith}
 use Rattle.tree.proofs.Lists.{total-of, list-few}
 use Rattle.tree.proofs.Writing.{content-is, answers-as}

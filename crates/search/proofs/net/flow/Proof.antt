@@ -9,7 +9,8 @@ use native.Mathlib.Omega.{arith}
 use borrow.Author.Needs.{needs, sfits-of}
 use Rattle.taxa.specs.Sets.{has}
 use Rattle.search.specs.Signed.{outOf, innOf}
-use Rattle.search.specs.Workspace.{IsColumn, netFlow, outs, inns}
+use Rattle.search.specs.inner.Places.{IsColumn}
+use Rattle.search.specs.Workspace.{netFlow, outs, inns}
 use Rattle.search.proofs.Workspace.{net-joined, column-place}
 use Rattle.search.proofs.net.flow.Statement.{statement}
 use Rattle.search.proofs.net.flow.Tie as tie

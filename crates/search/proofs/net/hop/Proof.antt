@@ -4,7 +4,7 @@ use mathlib.Core.Path.{_≡_, _∙_}
 use borrow.Author.Needs.{needs}
 use Rattle.taxa.specs.Sets.{sizes}
 use Rattle.search.specs.Workspace.{slot}
-use Rattle.search.specs.Network.{nth}
+use Rattle.search.specs.Search.{nth}
 use Rattle.search.proofs.Workspace.{slot-lt, column-place, can-send, hopped, sent-kept}
 use Rattle.search.proofs.net.hop.Statement.{statement}
 use Rattle.search.proofs.net.hop.Tie as tie

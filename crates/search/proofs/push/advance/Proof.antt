@@ -6,9 +6,9 @@ use mathlib.Core.Bool.{true}
 use mathlib.Core.Path.{_≡_, sym, _∙_}
 use Prim.Native.Nat.{_+_, _*_, _<_}
 use Rattle.taxa.specs.Sets.{has, sizes}
-use Rattle.search.specs.Network.{nth}
-use Rattle.search.specs.Flows.{Advanced}
-use Rattle.search.specs.Reaching.{widthOf, turnOf}
+use Rattle.search.specs.Search.{nth}
+use Rattle.search.specs.inner.Flows.{Advanced}
+use Rattle.search.specs.inner.Reaching.{widthOf, turnOf}
 use Rattle.search.proofs.Workspace.{kept-none}
 use Rattle.search.proofs.Flows.{Under, under-start, under-low, not-root, is-root, under-via, under-turn, can-hop, under-step, stayed, went, size-small}
 use Rattle.search.proofs.push.advance.Statement.{statement}

@@ -8,9 +8,9 @@ use Prim.Native.Nat.{_+_, _*_, _<_}
 use Rattle.taxa.specs.Sets.{has, sizes}
 use Rattle.taxa.proofs.Members.{in∩}
 use Rattle.search.specs.Workspace.{outs, inns, Kept}
-use Rattle.search.specs.Network.{nth}
-use Rattle.search.specs.Reaching.{carried}
-use Rattle.search.specs.Flows.{Flowing}
+use Rattle.search.specs.Search.{nth}
+use Rattle.search.specs.inner.Reaching.{carried}
+use Rattle.search.specs.inner.Flows.{Flowing}
 use Rattle.search.proofs.Workspace.{kept-none}
 use Rattle.search.proofs.Reaching.{pair, gate-of, pair-asks, entry, used-fits, gate-carry}
 use Rattle.search.proofs.Flows.{direct-asks, direct-flow, size-small}

@@ -3,9 +3,9 @@ use borrow.Author.Needs.{needs}
 use native.Mathlib.Omega.{arith}
 use Prim.Native.Nat.{_-_}
 use Rattle.taxa.specs.Sets.{sizes}
-use Rattle.search.specs.Network.{nth}
+use Rattle.search.specs.Search.{nth}
 use Rattle.search.specs.Workspace.{Kept}
-use Rattle.search.specs.Flows.{Flowing}
+use Rattle.search.specs.inner.Flows.{Flowing}
 use Rattle.search.proofs.Workspace.{kept-none, kept-then}
 use Rattle.search.proofs.push.direct_hops.Statement.{statement}
 use Rattle.search.proofs.push.direct_hops.Tie as tie

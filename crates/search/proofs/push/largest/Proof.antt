@@ -8,8 +8,8 @@ use lib.ListN.{length}
 use Rattle.taxa.specs.Sets.{has, sizes}
 use Rattle.taxa.proofs.Members.{in-pow}
 use Rattle.search.specs.Workspace.{Kept}
-use Rattle.search.specs.Network.{nth}
-use Rattle.search.specs.Flows.{Stage}
+use Rattle.search.specs.Search.{nth}
+use Rattle.search.specs.inner.Flows.{Stage}
 use Rattle.search.proofs.Workspace.{kept-none, kept-then, cleared-kept}
 use Rattle.search.proofs.Flows.{no-flow, size-small, rest-of, falls}
 use Rattle.search.proofs.push.largest.Statement.{statement}

@@ -8,7 +8,7 @@ use lib.IntN.{ℤ}
 use lib.ListN.{length}
 use Rattle.taxa.specs.Sum.{sum}
 use Rattle.search.specs.Workspace.{outs}
-use Rattle.search.specs.Network.{nth}
+use Rattle.search.specs.Search.{nth}
 use Rattle.search.proofs.Reaching.{pair-asks, pair-long}
 use Rattle.search.proofs.Flows.{count-after, entries-few, counted}
 use Rattle.search.proofs.push.step.Statement.{statement}

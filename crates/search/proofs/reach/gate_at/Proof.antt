@@ -4,7 +4,7 @@ use native.Mathlib.Omega.{arith}
 use mathlib.Core.Path.{_≡_, ap, _∙_}
 use Prim.Native.Nat.{ℕ, _*_}
 use Rattle.taxa.specs.Sets.{multiplicityIn}
-use Rattle.search.specs.Network.{arc}
+use Rattle.search.specs.inner.Network.{arc}
 use Rattle.search.proofs.reach.gate_at.Statement.{statement}
 use Rattle.search.proofs.reach.gate_at.Tie as tie
 

@@ -2,7 +2,7 @@
 use borrow.Author.Needs.{needs}
 use native.Mathlib.Omega.{arith}
 use mathlib.Core.Path.{refl}
-use Rattle.search.specs.Reaching.{stays, joins}
+use Rattle.search.specs.inner.Reaching.{stays, joins}
 use Rattle.search.proofs.Reaching.{joined, long}
 use Rattle.search.proofs.reach.offer.Statement.{statement}
 use Rattle.search.proofs.reach.offer.Tie as tie

@@ -3,8 +3,8 @@ use borrow.Author.Needs.{needs}
 use mathlib.Core.Path.{sym, _∙_}
 use Rattle.taxa.specs.Sets.{_∩_}
 use Rattle.taxa.proofs.Members.{within-⊆, ∩-⊆, in∩}
-use Rattle.search.specs.Network.{nth}
-use Rattle.search.specs.Reaching.{Leads}
+use Rattle.search.specs.Search.{nth}
+use Rattle.search.specs.inner.Reaching.{Leads}
 use Rattle.search.proofs.Reaching.{cross-full, cross-none, cross}
 use Rattle.search.proofs.reach.pass.Statement.{statement}
 use Rattle.search.proofs.reach.pass.Tie as tie

@@ -4,7 +4,7 @@ use native.Mathlib.Omega.{arith}
 use mathlib.Core.Path.{_≡_, sym, ap, _∙_}
 use Prim.Native.Nat.{ℕ, _^_}
 use Rattle.taxa.specs.Sets.{_∖_}
-use Rattle.search.specs.Reaching.{Planted}
+use Rattle.search.specs.inner.Reaching.{Planted}
 use Rattle.search.proofs.Reaching.{plant-none, plant-one}
 use Rattle.search.proofs.reach.plant.Statement.{statement}
 use Rattle.search.proofs.reach.plant.Tie as tie

@@ -3,7 +3,7 @@
 use native.Mathlib.Omega.{arith}
 use Prim.Native.Nat.{_-_}
 use Rattle.taxa.specs.Sets.{all}
-use Rattle.search.specs.Reaching.{Swept}
+use Rattle.search.specs.inner.Reaching.{Swept}
 use Rattle.search.proofs.Reaching.{root-alone, rooted-low, swept-none, swept-all}
 use Rattle.search.proofs.reach.reach.Statement.{statement}
 use Rattle.search.proofs.reach.reach.Tie as tie

@@ -7,7 +7,7 @@ use Prim.Native.Nat.{ℕ, _^_, max}
 use mathlib.Core.Bool.{true}
 use Rattle.taxa.specs.Sets.{has, _∖_}
 use Rattle.search.specs.Workspace.{outs, inns}
-use Rattle.search.specs.Network.{nth}
+use Rattle.search.specs.Search.{nth}
 use Rattle.search.proofs.Reaching.{pair, gate-of, pair-asks, sendsOf, freeOf, Seeks, seek-start, seek-found, seek-skip, seek-take, seek-end, entry, used-fits, gate-up, gate-free}
 use Rattle.search.proofs.reach.sender.Statement.{statement}
 use Rattle.search.proofs.reach.sender.Tie as tie

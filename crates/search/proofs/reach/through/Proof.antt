@@ -8,8 +8,8 @@ use Prim.Native.Nat.{ℕ, _+_, _-_, _*_, _^_, _<_, min, max}
 use Rattle.taxa.specs.Sets.{has, _∖_, multiplicityIn}
 use Rattle.taxa.proofs.Counts.{count-le}
 use Rattle.search.specs.Workspace.{outs, inns}
-use Rattle.search.specs.Network.{nth}
-use Rattle.search.specs.Reaching.{carried, turnOf, widthOf, Passed}
+use Rattle.search.specs.Search.{nth}
+use Rattle.search.specs.inner.Reaching.{carried, turnOf, widthOf, Passed}
 use Rattle.search.proofs.Reaching.{min-first, pair, gate-of, pair-asks, entry, used-fits, gate-carry, pass-start, pass-one, others, other-width, still-in, off-in}
 use Rattle.search.proofs.reach.through.Statement.{statement}
 use Rattle.search.proofs.reach.through.Tie as tie

@@ -5,7 +5,8 @@ use mathlib.Core.Path.{_≡_, sym, ap, ap₂, _∙_}
 use Prim.Native.Nat.{ℕ, _+_, _*_, _^_, _≤_}
 use Rattle.taxa.specs.Sets.{_∖_}
 use Rattle.taxa.proofs.Counts.{count-pos}
-use Rattle.search.specs.Network.{nth, flowMost, weightMost}
+use Rattle.search.specs.Search.{nth}
+use Rattle.search.specs.inner.Network.{flowMost, weightMost}
 use Rattle.search.proofs.Bonds.{times-small, Binding, binding-start, binding-one}
 use Rattle.search.proofs.ties.bound_of.Statement.{statement}
 use Rattle.search.proofs.ties.bound_of.Tie as tie

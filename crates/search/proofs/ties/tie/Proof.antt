@@ -6,7 +6,7 @@ use mathlib.Core.Path.{_≡_, sym, ap, _∙_}
 use Prim.Native.Nat.{ℕ, _+_, _^_}
 use Rattle.taxa.specs.Sets.{has, _⊆_, _∖_}
 use Rattle.taxa.proofs.Members.{⊆-refl, in-remove}
-use Rattle.search.specs.Network.{nth}
+use Rattle.search.specs.Search.{nth}
 use Rattle.search.proofs.Bonds.{AddedBut, but-start, but-was, but-one, but-end}
 use Rattle.search.proofs.ties.tie.Statement.{statement}
 use Rattle.search.proofs.ties.tie.Tie as tie

@@ -3,7 +3,7 @@ use borrow.Author.Needs.{needs}
 use native.Mathlib.Omega.{arith}
 use mathlib.Core.Path.{_≡_, refl}
 use Prim.Native.Nat.{_*_, _-_, _≤_}
-use Rattle.search.specs.Trying.{Ties, Weighed, Few, SameLimits}
+use Rattle.search.specs.inner.Trying.{Ties, Weighed, Few, SameLimits}
 use Rattle.search.proofs.Bonds.{few-next, few-more, few-none, same-then, ties-start, weighed-start, ties-next, weighed-next}
 use Rattle.search.proofs.ties.ties_of.Statement.{statement}
 use Rattle.search.proofs.ties.ties_of.Tie as tie

@@ -6,7 +6,7 @@ use mathlib.Core.Path.{_≡_}
 use Prim.Native.Nat.{_<_, _-_, _^_}
 use lib.ListN.{length}
 use Rattle.taxa.proofs.Members.{below, ⊆-≤}
-use Rattle.split.specs.Parts.{swept}
+use Rattle.split.specs.inner.Parts.{swept}
 use Rattle.split.proofs.Growing.{Grown, grow-start, grow-on, grown-part}
 use Rattle.split.proofs.parts.part.Statement.{statement}
 use Rattle.split.proofs.parts.part.Tie as tie

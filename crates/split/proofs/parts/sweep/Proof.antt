@@ -5,7 +5,7 @@ use native.Mathlib.Numerals.{add-one}
 use mathlib.Core.Path.{_≡_}
 use Prim.Native.Nat.{_≤_, _-_}
 use lib.ListN.{length}
-use Rattle.split.specs.Parts.{swept}
+use Rattle.split.specs.inner.Parts.{swept}
 use Rattle.split.proofs.parts.sweep.Statement.{statement}
 use Rattle.split.proofs.parts.sweep.Tie as tie
 

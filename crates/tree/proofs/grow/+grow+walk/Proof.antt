@@ -9,11 +9,10 @@ use lib.Seq.{length-take-le}
 use borrow.Rule.Slice.PartMut.{take-put}
 use Rattle.taxa.specs.Sets.{multiplicityIn, count}
 use Rattle.method.specs.Tree.{build}
-use Rattle.search.specs.Network.{Lent}
-use Rattle.search.specs.Search.{colsOf}
-use Rattle.split.specs.Columns.{Parallel}
+use Rattle.search.specs.Search.{Lent, colsOf}
+use Rattle.split.specs.inner.Handing.{Parallel}
 use Rattle.tree.specs.Lists.{firstGroups}
-use Rattle.tree.specs.Grow.{entriesFor, LentLists, TurnsClear}
+use Rattle.tree.specs.inner.Grow.{entriesFor, LentLists, TurnsClear}
 use Rattle.tree.proofs.Walking.{Going, going-start, going-room, going-next, going-end, one-taxon, still-listed, rest-length, loaded-as, part-ready, turns-on, ready-wide}
 use Rattle.tree.proofs.Opening.{search-given, listed-parts, listed-fits, parts-ready, parts-clear, parts-room, grown-group, first-room}
 use borrow.Fn.Kinds.{In}

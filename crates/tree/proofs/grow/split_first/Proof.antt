@@ -5,8 +5,8 @@ use mathlib.Core.List.{List, _++_}
 use Prim.Native.Nat.{ℕ}
 use lib.ListN.{length}
 use lib.Seq.{length-take-le, take-at}
-use Rattle.split.specs.Groups.{HandsOn}
-use Rattle.tree.specs.Grow.{entriesFor}
+use Rattle.split.specs.inner.Handing.{HandsOn}
+use Rattle.tree.specs.inner.Grow.{entriesFor}
 use Rattle.tree.proofs.grow.split_first.Statement.{statement}
 use Rattle.tree.proofs.grow.split_first.Tie as tie
 

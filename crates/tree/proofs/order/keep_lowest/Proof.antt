@@ -6,7 +6,8 @@ use mathlib.Core.List.{_++_, append-nil, append-assoc}
 use Prim.Native.Nat.{_+_, _-_, _≤_}
 use lib.ListN.{length}
 use Rattle.method.specs.Tree.{kept}
-use Rattle.tree.specs.Lists.{firstGroups, startsAt}
+use Rattle.tree.specs.Lists.{firstGroups}
+use Rattle.tree.specs.inner.Lists.{startsAt}
 use Rattle.tree.proofs.Lists.{kept-next, kept-size, kept-room}
 use Rattle.tree.proofs.order.keep_lowest.Statement.{statement}
 use Rattle.tree.proofs.order.keep_lowest.Tie as tie

@@ -9,7 +9,8 @@ use Rattle.method.specs.Split.{Column}
 use Rattle.method.specs.Tree.{column, flipList}
 use Rattle.split.specs.Columns.{columnOf, matrixIn}
 use Rattle.split.proofs.Loading.{file-column}
-use Rattle.tree.specs.Lists.{firstFlips, SameFrom, unweighed}
+use Rattle.tree.specs.Lists.{firstFlips}
+use Rattle.tree.specs.inner.Lists.{SameFrom, unweighed}
 use Rattle.tree.proofs.Lists.{list-next, list-size, list-few, same-all, same-on}
 use Rattle.tree.proofs.order.list_flips.Statement.{statement}
 use Rattle.tree.proofs.order.list_flips.Tie as tie

@@ -5,20 +5,31 @@ use Prim.Native.Nat.{ℕ, _+_, _*_, _^_, _≤_, _<_}
 use lib.IntN.{ℤ}
 use lib.ListN.{length, getD, take}
 use Rattle.taxa.specs.Sets.{Positive, multiplicityIn, Tabled, count}
+use Rattle.matrix.specs.declared.Checked.the-variants as checks
 use Rattle.matrix.specs.Matrix.{columnsAt}
+use Rattle.matrix.specs.Check.{checked}
 use Rattle.method.specs.Split.{Column}
 use Rattle.method.specs.Flow.{arcCount}
-use Rattle.method.specs.Tree.{Group, Walk, build, Turn, walked, ordered, total}
+use Rattle.method.specs.Tree.{Group, Walk, build, Turn, walked, ordered, total, oneEntries}
 use Rattle.answer.specs.declared.Written.{Written}
 use Rattle.answer.specs.declared.Written.the-variants as written
 use Rattle.answer.specs.Content.{Content, fileOf}
 use Rattle.answer.specs.Writing.{writing, put}
-use Rattle.search.specs.Workspace.{Clear}
+use Rattle.search.specs.inner.Places.{Clear}
 use Rattle.search.specs.Search.{colsOf}
-use Rattle.split.specs.Columns.{Parallel, matrixIn}
+use Rattle.split.specs.inner.Handing.{Parallel}
+use Rattle.split.specs.Columns.{matrixIn}
 use Rattle.tree.specs.declared.Built.{Built}
 use Rattle.tree.specs.declared.Built.the-variants.{Taken, Refused}
-use Rattle.tree.specs.Lists.{firstGroups, Room}
+use Rattle.tree.specs.Lists.{firstGroups}
+use Rattle.tree.specs.Build.{roomFor}
+use Rattle.tree.specs.inner.Lists.{Room}
+
+-- What has been tested where nothing is refused.
+pub record Buildable (file : List ℕ) (n m space room : ℕ) : Type 0 where
+  pub taken : checks.Taken n m ≡ checked file
+  pub places : oneEntries (matrixIn file) ≤ space
+  pub fits : roomFor n m ≤ room
 
 -- At most 256 columns of at most 64 taxa in three lists, and multiplicities of which none is 0, with their table.
 pub record Loaded (ws P os zs : List ℕ) (n : ℕ) : Type 0 where

@@ -7,12 +7,13 @@ use Prim.Native.Nat.{ℕ, _+_, _-_, _*_, _^_, _≤_, _<_, max}
 use lib.IntN.{ℤ}
 use lib.ListN.{length}
 use Rattle.taxa.specs.Sets.{has, _∪_, count}
-use Rattle.method.specs.Sources.{ReachFrom}
+use Rattle.method.specs.inner.Sources.{ReachFrom}
 use Rattle.search.specs.Workspace.{outs, inns}
 use Rattle.method.proofs.Carry.{carry}
 use Rattle.method.proofs.HopTree.{Tree, Joined}
 use Rattle.method.proofs.Sweep.{Sweeping, Sending}
-use Rattle.search.specs.Network.{nth, arc, caps}
+use Rattle.search.specs.Search.{nth}
+use Rattle.search.specs.inner.Network.{arc, caps}
 
 -- From which taxon x was reached.
 abbrev pub fromOf : List ℕ → ℕ → ℕ

@@ -8,9 +8,10 @@ use lib.IntN.{ℤ}
 use lib.ListN.{length}
 use Rattle.taxa.specs.Sum.{sum}
 use Rattle.taxa.specs.Sets.{has}
-use Rattle.method.specs.Sources.{FlowFrom, ReachFrom}
+use Rattle.method.specs.inner.Sources.{FlowFrom, ReachFrom}
 use Rattle.search.specs.Workspace.{outs, inns}
-use Rattle.search.specs.Network.{nth, caps, flowMost, Ready}
+use Rattle.search.specs.Search.{nth}
+use Rattle.search.specs.inner.Network.{caps, flowMost, Ready}
 
 -- U counts column c, and d more can be counted.
 pub record CanCount (J : List ℕ) (n : ℕ) (ws : List ℤ) (U : List ℕ) (c d : ℕ) : Type 0 where

@@ -6,15 +6,12 @@ use mathlib.Core.List.{List}
 use mathlib.Core.Logic.{_≢_}
 use Prim.Native.Nat.{ℕ, _+_, _*_, _^_, _≤_, _<_}
 use lib.IntN.{ℤ}
-use lib.ListN.{length, getD}
+use lib.ListN.{length}
 use Rattle.taxa.specs.Sum.{sum}
 use Rattle.taxa.specs.Sets.{has, sizes, Positive, multiplicityIn, Tabled}
 use Rattle.method.specs.Flow.{ColumnFlow}
 use Rattle.search.specs.Workspace.{slot, outs, inns}
-
--- Entry x of a list; past its end, 0.
-abbrev pub nth : List ℕ → ℕ → ℕ
-nth l x = getD l x 0
+use Rattle.search.specs.Search.{nth}
 
 -- What an arc between column c and taxon i carries: "the column's weight times the taxon's multiplicity".
 abbrev pub arc : List ℕ → List ℕ → ℕ → ℕ → ℕ
@@ -56,18 +53,6 @@ pub record CanHop (J F : List ℕ) (ws : List ℤ) (c i j d : ℕ) : Type 0 wher
   pub apart : i ≢ j
   pub out : outs ws (nth J) c i + d < 2 ^ 31
   pub inn : inns ws (nth J) c j + d < 2 ^ 31
-
--- The lent lists that the search counts in and grows its tree in: their room.
-pub record Spare (U Y : List ℕ) : Type 0 where
-  pub counts : length U ≡ 256
-  pub tree : length Y ≡ 256
-
--- All lent lists of the search.
-pub record Lent (J L F U Y : List ℕ) : Type 0 where
-  pub joins : length J ≡ 256
-  pub limits : length L ≡ 320
-  pub offsets : length F ≡ 257
-  pub spare : Spare U Y
 
 -- Nothing is counted in the columns below m.
 pub record Unused (U : List ℕ) (m : ℕ) : Type 0 where

@@ -10,8 +10,8 @@ use lib.ListN.{length}
 use Rattle.taxa.specs.Sum.{sum}
 use Rattle.taxa.specs.Sets.{has, all, _∩_, _∖_, mass, count, low, multiplicityIn}
 use Rattle.method.specs.Flow.{cutCost}
-use Rattle.search.specs.Network.{nth, caps}
-use Rattle.search.specs.Search.{Given, DividedByFlow}
+use Rattle.search.specs.Search.{nth, Given, DividedByFlow}
+use Rattle.search.specs.inner.Network.{caps}
 
 -- For each column below m, the taxa that it joins in S.
 pub record Joins (O Z : List ℕ) (S m : ℕ) (J : List ℕ) : Type 0 where

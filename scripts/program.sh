@@ -1,0 +1,128 @@
+# Sourced by the scripts that people run: words that are judged before anything is proved, progress while it is, and a status that tells how it ended.
+#   0   done
+#   1   the input is refused or could not be read, or what was to be printed was lost
+#   2   the words after the script's name are not as they should be
+#   3   a crate is not proved, or this machine lacks something
+# A script sets `usage`, one line, first.
+
+top=$(dirname "$(dirname "$(readlink -f "${BASH_SOURCE[0]}")")")
+name=${0##*/}
+
+stop() { # STATUS LINE
+    printf '%s: %s\n' "$name" "$2" >&2
+    exit "$1"
+}
+
+# A descriptor that is closed would be taken by the next file that is opened. Of a folder nothing can be read.
+[ -e /dev/fd/2 ] || exec 2>/dev/null
+[ -e /dev/fd/1 ] || stop 1 "standard output is closed"
+[ -e /dev/fd/0 ] || exec <"$top"
+
+# ---- words
+
+count_words() { # LEAST MOST WORD...
+    case ${3:-} in -h | --help) stop 2 "$usage" ;; esac
+    [ $(($# - 2)) -ge "$1" ] || stop 2 "no file is named; $usage"
+    [ $(($# - 2)) -le "$2" ] || stop 2 "too many words; $usage"
+}
+
+# A word that names a file to read.
+judge_file() { # WORD
+    [ -n "$1" ] || stop 2 "the name of a file is empty; $usage"
+    [ -e "$1" ] || stop 2 "there is no file '$1'"
+    [ ! -d "$1" ] || stop 2 "'$1' is a folder, not a file"
+    [ -r "$1" ] || stop 2 "'$1' may not be read by you"
+}
+
+# ---- proving
+
+# A crate of crates.txt and all that it rests on, a crate after those that it needs.
+crates_below() { # CRATE
+    WANTED=$1 awk '
+        function visit(crate, needs, k) {
+            if (seen[crate]++) return
+            split(rests_on[crate], needs, " ")
+            for (k = 1; k in needs; k++) if (needs[k] in rests_on) visit(needs[k])
+            print crate
+        }
+        { sub(/#.*/, "") }
+        split($0, side, ":") == 2 { gsub(/ /, "", side[1]); rests_on[side[1]] = side[2] }
+        END { visit(ENVIRON["WANTED"]) }' "$top/crates.txt"
+}
+
+clock() { printf '%d:%02d' $(($1 / 60)) $(($1 % 60)); }
+
+# How far the run is, told from the files that rt keeps of each crate; `told` holds the crates that ended.
+progress() {
+    local crate last now=
+    for crate in "${wanted[@]}"; do
+        [ -z "${told[$crate]:-}" ] && [ -e "$top/target/log/$crate.out" ] || continue
+        last=$(tail -n 1 "$top/target/log/$crate.out")
+        case $last in
+        "rt: $crate proved (unchanged "*) told[$crate]=unchanged ;;
+        "rt: $crate "*)
+            told[$crate]=proved
+            [ -t 2 ] || echo "${last#rt: }: crate ${#told[@]} of ${#wanted[@]}, $(clock $((SECONDS - began))) so far" >&2
+            ;;
+        *) now+=${now:+ and }$crate ;;
+        esac
+    done
+    [ ! -t 2 ] || [ -z "$now" ] || printf '\r\033[Kproving %s: %d of %d crates done, %s so far' "$now" ${#told[@]} ${#wanted[@]} "$(clock $((SECONDS - began)))" >&2
+}
+
+# Runs rt on a crate, beside which progress is told. What rt prints goes to a file, which is named when something fails.
+prove() { # CRATE
+    local said=$top/target/prove-$1.log began=$SECONDS job status=0 crate wanted
+    local -A told=()
+    mapfile -t wanted < <(crates_below "$1")
+    mkdir -p "$top/target/log"
+    # rt may not run twice at once in a repository.
+    exec 9>"$top/target/prove.lock"
+    flock -n 9 || { echo "$name: another run proves here; this one waits for it" >&2 && flock 9; }
+    for crate in "${wanted[@]}"; do rm -f "$top/target/log/$crate.out"; done
+    # A process group of its own, so that what rt started ends with this script.
+    set -m
+    (cd "$top" && exec rt check "$1") </dev/null >"$said" 2>&1 9>&- &
+    job=$!
+    set +m
+    trap 'kill -- -$job 2>/dev/null; exit 130' INT TERM HUP
+    while kill -0 "$job" 2>/dev/null; do
+        progress
+        sleep 0.2
+    done
+    wait "$job" || status=$?
+    trap - INT TERM HUP
+    exec 9>&-
+    progress
+    [ ! -t 2 ] || printf '\r\033[K' >&2
+    [ "$status" = 0 ] || stop 3 "$1 could not be proved: $(grep -m 1 '^rt: .*\(NOT PROVED\|FAILED\)' "$said" || tail -n 1 "$said"); the prover's lines are in $said"
+}
+
+# A crate's static library.
+archive() { # CRATE
+    local said=$top/target/prove-$1.log
+    prove "$1"
+    exec 9>"$top/target/prove.lock"
+    flock 9
+    (cd "$top" && exec rt staticlib "$1") </dev/null >"$said" 2>&1 9>&- || stop 3 "the library of $1 could not be made; the prover's lines are in $said"
+    exec 9>&-
+}
+
+# ---- printing
+
+# In words, why a file is refused: the row of this number in the table of docs/RULES.md.
+refusal_in_words() { # NUMBER
+    awk -F ' *[|] *' -v number="$1" '$2 == number { print $3; exit }' "$top/docs/RULES.md"
+}
+
+# Prints what a program said of a file. All of it is at hand before any is printed, so none is lost unnoticed.
+tell() { # TEXT FILE
+    [ -n "$1" ] || stop 1 "the program said nothing of $2"
+    trap '' PIPE
+    printf '%s\n' "$1" 2>/dev/null || stop 1 "standard output was lost: not all of the answer could be written"
+    trap - PIPE
+    local last=${1##*$'\n'} word number place
+    [ "${last%% *}" = refused ] || return 0
+    read -r word number word place <<<"$last"
+    stop 1 "$2 is refused, with $number at byte $place: $(refusal_in_words "$number")"
+}
