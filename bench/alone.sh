@@ -1,6 +1,7 @@
-# Sourced by the scripts of this folder, at the repository's top, after tests/env.sh. `alone` makes a crate that exports a function to C, in copies of
+# Sourced by the scripts of this folder, at the repository's top, after tests/env.sh, with what scripts/program.sh has. `alone` makes a crate that exports a function to C, in copies of
 # the crates and of what was proved of them, below target/alone, and its static library there.
 
+. scripts/program.sh
 room=$(mktemp -d)
 trap 'rm -rf "$room"' EXIT
 work=target/alone

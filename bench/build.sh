@@ -2,7 +2,7 @@
 # Times whole builds of 64 taxa and 256 columns by the operation "build", and says how long a workspace it needs:
 #   bench/build.sh                 against plain C of the same method, with the stack that the operation uses
 #   bench/build.sh compare OLD.a   against an earlier libprobe.a, with the bytes that are lent to each
-# Both are x86-64 code in one program, so on Arm both run under the toolchain's emulator. `rt staticlib probe` proves what is not yet proved.
+# Both are x86-64 code in one program, so on Arm both run under the toolchain's emulator. What is not yet proved is proved first.
 set -euo pipefail
 here=$(cd "$(dirname "$0")" && pwd -P)
 case "$#${1:-}" in
@@ -14,7 +14,7 @@ cd "$(dirname "$here")"
 . tests/env.sh
 . bench/alone.sh
 
-quietly rt staticlib probe
+archive probe
 apart target/staticlib/libprobe.a "$room/now.a"
 parts=(bench/build.c "$room/now.a")
 if [ -n "$earlier" ]; then

@@ -2,7 +2,7 @@
 # Times whole builds by the operation "build" against FlipCut on LEMON's Preflow, a library of largest flows (Debian's package liblemon-dev):
 #   bench/peer.sh          ten kinds of matrices of 64 taxa and 256 columns
 #   bench/peer.sh growth   random and interval matrices of 16 to 64 taxa, and of 64 to 256 columns
-# Both are x86-64 code in one program, so on Arm both run under the toolchain's emulator. `rt staticlib probe` proves what is not yet proved.
+# Both are x86-64 code in one program, so on Arm both run under the toolchain's emulator. What is not yet proved is proved first.
 set -euo pipefail
 here=$(cd "$(dirname "$0")" && pwd -P)
 case "$#${1:-}" in
@@ -18,7 +18,7 @@ headers=/usr/include/lemon
 [ -e $headers/preflow.h ] || add_package liblemon-dev
 ln -s $headers "$room"
 
-quietly rt staticlib probe
+archive probe
 apart target/staticlib/libprobe.a "$room/probe.a"
 # LEMON makes nodes and arcs before it fills them, inlined into the program, so the compiler warns in spite of -isystem.
 "$cxx" "${cxx_flags[@]}" "${apart_flags[@]}" -Wno-maybe-uninitialized -isystem "$room" bench/peer.cpp "$room/probe.a" -o "$room/peer"

@@ -6,7 +6,7 @@ cd "$(dirname "$here")"
 . tests/env.sh
 . bench/alone.sh
 
-quietly rt check search
+prove search
 copy_crates
 
 alone port "method search" <<'RT'

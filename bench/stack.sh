@@ -9,9 +9,9 @@ cd "$(dirname "$here")"
 . tests/env.sh
 . bench/alone.sh
 
-quietly rt staticlib probe
-quietly rt staticlib flipcut
-quietly rt check outline
+archive probe
+archive flipcut
+prove outline
 copy_crates
 
 alone build_alone "record tree" <<'RT'

@@ -70,22 +70,25 @@ progress() {
     [ ! -t 2 ] || [ -z "$now" ] || printf '\r\033[Kproving %s: %d of %d crates done, %s so far' "$now" ${#told[@]} ${#wanted[@]} "$(clock $((SECONDS - began)))" >&2
 }
 
+# rt may not run twice at once in a repository. The lock is descriptor 9.
+lock() {
+    { mkdir -p "$top/target/log" && exec 9>"$top/target/prove.lock"; } 2>/dev/null || stop 3 "$top/target cannot be written, and what is proved is kept there"
+    flock -n 9 || { echo "$name: another run proves here; this one waits for it" >&2 && flock 9; }
+}
+
 # Runs rt on a crate, beside which progress is told. What rt prints goes to a file, which is named when something fails.
 prove() { # CRATE
     local said=$top/target/prove-$1.log began=$SECONDS job status=0 crate wanted
     local -A told=()
     mapfile -t wanted < <(crates_below "$1")
-    mkdir -p "$top/target/log"
-    # rt may not run twice at once in a repository.
-    exec 9>"$top/target/prove.lock"
-    flock -n 9 || { echo "$name: another run proves here; this one waits for it" >&2 && flock 9; }
+    lock
     for crate in "${wanted[@]}"; do rm -f "$top/target/log/$crate.out"; done
     # A process group of its own, so that what rt started ends with this script.
     set -m
     (cd "$top" && exec rt check "$1") </dev/null >"$said" 2>&1 9>&- &
     job=$!
     set +m
-    trap 'kill -- -$job 2>/dev/null; exit 130' INT TERM HUP
+    trap 'kill -- -$job 2>/dev/null; echo >&2; exit 130' INT TERM HUP
     while kill -0 "$job" 2>/dev/null; do
         progress
         sleep 0.2
@@ -98,12 +101,12 @@ prove() { # CRATE
     [ "$status" = 0 ] || stop 3 "$1 could not be proved: $(grep -m 1 '^rt: .*\(NOT PROVED\|FAILED\)' "$said" || tail -n 1 "$said"); the prover's lines are in $said"
 }
 
-# A crate's static library.
+# A crate's static library, which rt would prove and make again each time.
 archive() { # CRATE
     local said=$top/target/prove-$1.log
     prove "$1"
-    exec 9>"$top/target/prove.lock"
-    flock 9
+    [ ! "$top/target/staticlib/lib$1.a" -nt "$top/target/rlib/$1.rlib" ] || return 0
+    lock
     (cd "$top" && exec rt staticlib "$1") </dev/null >"$said" 2>&1 9>&- || stop 3 "the library of $1 could not be made; the prover's lines are in $said"
     exec 9>&-
 }
@@ -112,7 +115,7 @@ archive() { # CRATE
 
 # In words, why a file is refused: the row of this number in the table of docs/RULES.md.
 refusal_in_words() { # NUMBER
-    awk -F ' *[|] *' -v number="$1" '$2 == number { print $3; exit }' "$top/docs/RULES.md"
+    awk -F ' *[|] *' -v number="$1" '/^## / { on = $0 == "## Refusals" } on && $2 == number { print $3; exit }' "$top/docs/RULES.md"
 }
 
 # Prints what a program said of a file. All of it is at hand before any is printed, so none is lost unnoticed.
