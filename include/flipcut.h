@@ -2,8 +2,8 @@
  *
  * Each function answers one packed 64-bit number. Where bit 63 is set the
  * file was refused, and flipcut_number and flipcut_place say why and where
- * (the table of document 01; 21 is document 02's C-14). Where it is clear the
- * call succeeded, and the functions named below take the result apart.
+ * (the table of docs/RULES.md, "Refusals"). Where it is clear the call
+ * succeeded, and the functions named below take the result apart.
  *
  * A file is a pointer and a length in bytes; a null pointer is the empty file.
  * Nothing is written through it and nothing is kept.

@@ -1,7 +1,7 @@
 /* Checks a matrix file and, where an answer file is named too, scores its tree against the matrix, as
  * the workbench does. It prints a line for each: `taken n N m M`, then `raises R lowers L score S`; or
- * `refused N at P`, and then no more. Ends with 0, with 1 where a file is refused, 2 where one cannot
- * be read. */
+ * `refused N at P`, and then no more. Ends with 0, with 1 where a file is refused or what it prints is
+ * lost, 2 where a file cannot be read. */
 #include "flipcut.h"
 
 #include <inttypes.h>
@@ -73,5 +73,9 @@ int main(int argc, char **argv) {
     if (status == 0) status = check_and_score(files[0], files[1]);
     free(files[0].bytes);
     free(files[1].bytes);
+    if (fflush(stdout) != 0 || ferror(stdout)) {
+        perror("standard output");
+        status = 1;
+    }
     return status;
 }
