@@ -2,6 +2,7 @@
 # Times the searches of whole trees of 64 taxa and 256 columns: plain C of the same method, and crate `search`.
 set -euo pipefail
 here=$(cd "$(dirname "$0")" && pwd -P)
+[ $# = 0 ] || { echo "usage: bench/run.sh" >&2; exit 2; }
 cd "$(dirname "$here")"
 . tests/env.sh
 . bench/alone.sh

@@ -5,6 +5,7 @@
 # A library with one operation has one caller of the search.
 set -euo pipefail
 here=$(cd "$(dirname "$0")" && pwd -P)
+[ $# = 0 ] || { echo "usage: bench/stack.sh" >&2; exit 2; }
 cd "$(dirname "$here")"
 . tests/env.sh
 . bench/alone.sh

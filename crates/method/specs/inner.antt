@@ -1,2 +1,2 @@
--- No promise rests on these: what functions of the code ask of each other and leave each other.
+-- No promise rests on these: flows as the search tries them.
 pub mod Sources
