@@ -1,5 +1,5 @@
-# Sourced by the scripts of this folder, at the repository's top, after tests/env.sh, with what scripts/program.sh has. `alone` makes a crate that exports a function to C, in copies of
-# the crates and of what was proved of them, below target/alone, and its static library there.
+# Sourced by the scripts of this folder, at the repository's top, after tests/env.sh; it brings scripts/program.sh. `alone` makes a crate that exports
+# a function to C, in copies of the crates and of what was proved of them, below target/alone, and its static library there.
 
 . scripts/program.sh
 room=$(mktemp -d)

@@ -11,10 +11,15 @@ archive flipcut
 
 room=$(mktemp -d)
 trap 'rm -rf "$room"' EXIT
-"$cc" "${c_flags[@]}" -I "$top/include" "$top/samples/check.c" "$top/target/staticlib/libflipcut.a" -o "$room/check"
+"$cc" "${c_flags[@]}" -I "$top/include" "$top/samples/check.c" "$top/target/staticlib/libflipcut.a" -o "$room/check" ||
+    stop 3 "samples/check.c could not be compiled"
 status=0
 said=$(${run[@]+"${run[@]}"} "$room/check" "$@") || status=$?
-[ "$status" -le 1 ] || stop 1 "the program ended early, with status $status"
+case $status in
+0 | 1) ;;
+2) exit 1 ;; # it told which file it could not read
+*) stop 1 "the program ended early, with status $status" ;;
+esac
 # It says a line of each file.
 case $said in
 *$'\n'*) tell "$said" "'$2'" ;;

@@ -3,7 +3,7 @@
 #   1   the input is refused or could not be read, or what was to be printed was lost
 #   2   the words after the script's name are not as they should be
 #   3   a crate is not proved, or this machine lacks something
-# A script sets `usage`, one line, first.
+# A script that judges words sets `usage`, one line, first.
 
 top=$(dirname "$(dirname "$(readlink -f "${BASH_SOURCE[0]}")")")
 name=${0##*/}
@@ -36,25 +36,12 @@ judge_file() { # WORD
 
 # ---- proving
 
-# A crate of crates.txt and all that it rests on, a crate after those that it needs.
-crates_below() { # CRATE
-    WANTED=$1 awk '
-        function visit(crate, needs, k) {
-            if (seen[crate]++) return
-            split(rests_on[crate], needs, " ")
-            for (k = 1; k in needs; k++) if (needs[k] in rests_on) visit(needs[k])
-            print crate
-        }
-        { sub(/#.*/, "") }
-        split($0, side, ":") == 2 { gsub(/ /, "", side[1]); rests_on[side[1]] = side[2] }
-        END { visit(ENVIRON["WANTED"]) }' "$top/crates.txt"
-}
-
 clock() { printf '%d:%02d' $(($1 / 60)) $(($1 % 60)); }
 
 # How far the run is, told from the files that rt keeps of each crate; `told` holds the crates that ended.
 progress() {
-    local crate last now=
+    local crate last now= clock
+    clock=$(clock $((SECONDS - began)))
     for crate in "${wanted[@]}"; do
         [ -z "${told[$crate]:-}" ] && [ -e "$top/target/log/$crate.out" ] || continue
         last=$(tail -n 1 "$top/target/log/$crate.out")
@@ -62,25 +49,26 @@ progress() {
         "rt: $crate proved (unchanged "*) told[$crate]=unchanged ;;
         "rt: $crate "*)
             told[$crate]=proved
-            [ -t 2 ] || echo "${last#rt: }: crate ${#told[@]} of ${#wanted[@]}, $(clock $((SECONDS - began))) so far" >&2
+            [ -t 2 ] || echo "${last#rt: }: crate ${#told[@]} of ${#wanted[@]}, $clock so far" >&2
             ;;
         *) now+=${now:+ and }$crate ;;
         esac
     done
-    [ ! -t 2 ] || [ -z "$now" ] || printf '\r\033[Kproving %s: %d of %d crates done, %s so far' "$now" ${#told[@]} ${#wanted[@]} "$(clock $((SECONDS - began)))" >&2
+    [ ! -t 2 ] || [ -z "$now" ] || printf '\r\033[Kproving %s: %d of %d crates done, %s so far' "$now" ${#told[@]} ${#wanted[@]} "$clock" >&2
 }
 
 # rt may not run twice at once in a repository. The lock is descriptor 9.
 lock() {
-    { mkdir -p "$top/target/log" && exec 9>"$top/target/prove.lock"; } 2>/dev/null || stop 3 "$top/target cannot be written, and what is proved is kept there"
+    { mkdir -p "$top/target/log" && exec 9>"$top/target/prove.lock"; } 2>/dev/null ||
+        stop 3 "$top/target cannot be written, and what is proved is kept there"
     flock -n 9 || { echo "$name: another run proves here; this one waits for it" >&2 && flock 9; }
 }
 
 # Runs rt on a crate, beside which progress is told. What rt prints goes to a file, which is named when something fails.
 prove() { # CRATE
-    local said=$top/target/prove-$1.log began=$SECONDS job status=0 crate wanted
+    local said=$top/target/prove-$1.log began=$SECONDS job status=0 crate wanted why
     local -A told=()
-    mapfile -t wanted < <(crates_below "$1")
+    mapfile -t wanted < <("$top/scripts/layers" "$1")
     lock
     for crate in "${wanted[@]}"; do rm -f "$top/target/log/$crate.out"; done
     # A process group of its own, so that what rt started ends with this script.
@@ -98,7 +86,9 @@ prove() { # CRATE
     exec 9>&-
     progress
     [ ! -t 2 ] || printf '\r\033[K' >&2
-    [ "$status" = 0 ] || stop 3 "$1 could not be proved: $(grep -m 1 '^rt: .*\(NOT PROVED\|FAILED\)' "$said" || tail -n 1 "$said"); the prover's lines are in $said"
+    [ "$status" != 0 ] || return 0
+    why=$(grep -m 1 '^rt: .*\(NOT PROVED\|FAILED\)' "$said" || tail -n 1 "$said")
+    stop 3 "$1 could not be proved: $why; the prover's lines are in $said"
 }
 
 # A crate's static library, which rt would prove and make again each time.
@@ -107,7 +97,8 @@ archive() { # CRATE
     prove "$1"
     [ ! "$top/target/staticlib/lib$1.a" -nt "$top/target/rlib/$1.rlib" ] || return 0
     lock
-    (cd "$top" && exec rt staticlib "$1") </dev/null >"$said" 2>&1 9>&- || stop 3 "the library of $1 could not be made; the prover's lines are in $said"
+    (cd "$top" && exec rt staticlib "$1") </dev/null >"$said" 2>&1 9>&- ||
+        stop 3 "the library of $1 could not be made; the prover's lines are in $said"
     exec 9>&-
 }
 
