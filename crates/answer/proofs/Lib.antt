@@ -13,4 +13,5 @@ pub mod Taken
 pub mod Encoding
 pub mod Accepted
 pub mod RoundTrip
+pub mod Places
 pub mod Numbers

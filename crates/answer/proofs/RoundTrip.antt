@@ -46,7 +46,7 @@ reads-back {c} lawful room l =
 -- ---- reading what was written
 
 -- Where a length came back, all tests were passed.
-wrote : {size n : ℕ} (p : Passed) → written.Length size ≡ ended n p → (here : Cursor) × (At here ≡ p) × (size ≡ n)
+pub wrote : {size n : ℕ} (p : Passed) → written.Length size ≡ ended n p → (here : Cursor) × (At here ≡ p) × (size ≡ n)
 wrote (At here) e = (here, refl, cc)
 wrote (Refused why) e = absurd (let z : _≡_ {A = ℕ} 0 1 = cc in omega arith)
 
