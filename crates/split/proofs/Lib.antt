@@ -7,3 +7,4 @@ pub mod Collecting
 pub mod Soundness
 pub mod Dividing
 pub mod Answering
+pub mod Places
