@@ -5,3 +5,4 @@ pub mod Opening
 pub mod Rules
 pub mod Writing
 pub mod Building
+pub mod Places
