@@ -1,17 +1,19 @@
 /* FlipCut for C: what the static library libflipcut.a exports.
  *
- * Each function answers one packed 64-bit number. Where bit 63 is set the
- * file was refused, and flipcut_number and flipcut_place say why and where
- * (the table of docs/RULES.md, "Refusals"). Where it is clear the call
- * succeeded, and the functions named below take the result apart.
+ * Each function answers one packed 64-bit number. Where bit 63 is set the call
+ * was refused: flipcut_number and flipcut_place say why and where (the table of
+ * docs/RULES.md, "Refusals"), and all memory that was lent is as it was. Where
+ * it is clear the call succeeded, and the functions named with each take the
+ * results apart.
  *
- * A file is a pointer and a length in bytes; a null pointer is the empty file.
- * Nothing is written through it and nothing is kept.
+ * A file, a list or a buffer is a pointer and a length, in bytes or in elements.
+ * A null pointer, or any pointer with the length 0, is an empty one. Nothing is
+ * kept after a call, and nothing is written but what is said to be. What is
+ * written must not overlap anything else that the same call is given.
  *
- * Stack: a call of the check takes 120 bytes at most, one of the score 2,504.
- * The operations that this library does not export yet take 37,696 (build) and
- * 12,256 (split). Measured on x86-64 for 64 taxa and 256 columns, the most
- * there can be; every release keeps below 1, 4, 40 and 12 KiB.
+ * Stack: a call of the build takes 37,696 bytes at most, of the split 12,256,
+ * of the score 2,504, of the check 120. Measured on x86-64 for 64 taxa and 256
+ * columns, the most there can be; every release keeps below 40, 12, 4 and 1 KiB.
  */
 #ifndef FLIPCUT_H
 #define FLIPCUT_H
@@ -20,12 +22,64 @@
 #include <stddef.h>
 #include <stdint.h>
 
+/* The most that a file can hold, so the most that a call can need. */
+#define FLIPCUT_MOST_TAXA 64
+#define FLIPCUT_MOST_COLUMNS 256
+#define FLIPCUT_MOST_GROUPS 63
+#define FLIPCUT_MOST_WORKSPACE (FLIPCUT_MOST_TAXA * FLIPCUT_MOST_COLUMNS) /* numbers */
+#define FLIPCUT_MOST_MATRIX 5712                                           /* bytes */
+#define FLIPCUT_MOST_ANSWER 6660                                           /* bytes */
+
+/* The places of a split's result. */
+enum flipcut_split_result { FLIPCUT_COST, FLIPCUT_SIDE, FLIPCUT_TAXON, FLIPCUT_SPLIT_RESULTS };
+
+/* What an answer holds beside its flips. A set of taxa is 64 bits, taxon i worth 2 to the i. */
+struct flipcut_answer {
+    uint16_t n;      /* taxa */
+    uint16_t m;      /* columns */
+    uint16_t groups; /* how many of the 63 places below are used; the others are 0 */
+    uint16_t flips;  /* how many columns are flipped */
+    uint32_t total;  /* the sum of the costs */
+    uint64_t taxa[FLIPCUT_MOST_GROUPS];
+    uint32_t costs[FLIPCUT_MOST_GROUPS];
+};
+
+/* A flipped column: the taxa raised from 0 to 1 and those lowered from 1 to 0. */
+struct flipcut_flip {
+    uint16_t column;
+    uint64_t raised;
+    uint64_t lowered;
+};
+
 #ifdef __cplusplus
 extern "C" {
 #endif
 
 /* Checks a matrix file. Refusals: 1 to 8, 21. Success: flipcut_taxa, flipcut_columns. */
 uint64_t flipcut_check(const uint8_t *file, size_t len);
+
+/* Builds the tree of a matrix file and writes its answer file to the start of `out`, which is to have 20 + 16(n - 1) + 22m
+ * bytes. The workspace is to have a number for each 1 of the matrix; so many are 0 after success. Refusals: the matrix's
+ * (1 to 8, 21), then 9 for the workspace, 10 for `out`. Success: flipcut_written, flipcut_total. */
+uint64_t flipcut_build(const uint8_t *matrix, size_t matrix_len, int32_t *workspace, size_t workspace_len, uint8_t *out,
+                       size_t out_len);
+
+/* Splits a group of a matrix file, its columns as they are in the file. The workspace is that of the build. Refusals: the
+ * matrix's (1 to 8, 21), then 11 for the group, 9 for the workspace. Success: result[FLIPCUT_COST] is the cost of the
+ * cheapest division, result[FLIPCUT_SIDE] the side that holds the group's lowest taxon, result[FLIPCUT_TAXON] the taxon on
+ * the other side that the flow goes to. */
+uint64_t flipcut_split(const uint8_t *matrix, size_t matrix_len, uint64_t group, int32_t *workspace, size_t workspace_len,
+                       uint64_t result[FLIPCUT_SPLIT_RESULTS]);
+
+/* Reads an answer file: its flips to the start of `list`, which is to have an entry for each, the rest to `answer`.
+ * Refusals: 1 to 4, 6, 8, 12 to 14, then 10 for the list. */
+uint64_t flipcut_read(const uint8_t *file, size_t len, struct flipcut_answer *answer, struct flipcut_flip *list,
+                      size_t list_len);
+
+/* Writes an answer file to the start of `out`. Refusals: 3, 4, 6, 12 to 14, the place in the file that would be written,
+ * then 10 for `out`. Success: flipcut_written. */
+uint64_t flipcut_write(const struct flipcut_answer *answer, const struct flipcut_flip *list, size_t list_len, uint8_t *out,
+                       size_t out_len);
 
 /* Scores the tree of an answer file against a matrix file. Refusals: the matrix's (1 to 8, 21), then the
  * answer's (1 to 4, 6, 8, 12 to 14, the place in the answer), then 15. Success: flipcut_raises,
@@ -37,30 +91,68 @@ uint64_t flipcut_score(const uint8_t *matrix, size_t matrix_len, const uint8_t *
 }
 #endif
 
-/* The functions of the library take no null pointer, and C passes one for an empty file. So a call of
- * theirs by name goes through a function here, which lends a byte of its own and says that it has none. */
-static inline const uint8_t *flipcut_bytes(const uint8_t *file) {
-    static const uint8_t nothing = 0;
-    return file == NULL ? &nothing : file;
+/* The functions of the library take no null pointer, and C passes one for what is empty. So a call of theirs by name goes
+ * through a function here, which lends something of its own and says that it is empty. Where `result` or `answer` is null,
+ * what would be written there is not wanted; a null answer to write is one of zeros, which is refused. */
+static inline size_t flipcut_length(const void *start, size_t len) {
+    return start == NULL ? 0 : len;
 }
 
-static inline size_t flipcut_length(const uint8_t *file, size_t len) {
-    return file == NULL ? 0 : len;
+/* Nothing is read or written through it where the length is 0. */
+static inline void *flipcut_start(const void *start, size_t len) {
+    static uint64_t nothing;
+    return flipcut_length(start, len) == 0 ? (void *)&nothing : (void *)(uintptr_t)start;
 }
 
-static inline uint64_t flipcut_check_file(const uint8_t *file, size_t len) {
-    return flipcut_check(flipcut_bytes(file), flipcut_length(file, len));
+static inline uint64_t flipcut_check_lent(const uint8_t *file, size_t len) {
+    return flipcut_check((const uint8_t *)flipcut_start(file, len), flipcut_length(file, len));
 }
 
-static inline uint64_t flipcut_score_files(const uint8_t *matrix, size_t matrix_len, const uint8_t *answer,
-                                           size_t answer_len) {
-    return flipcut_score(flipcut_bytes(matrix), flipcut_length(matrix, matrix_len), flipcut_bytes(answer),
-                         flipcut_length(answer, answer_len));
+static inline uint64_t flipcut_build_lent(const uint8_t *matrix, size_t matrix_len, int32_t *workspace, size_t workspace_len,
+                                          uint8_t *out, size_t out_len) {
+    return flipcut_build((const uint8_t *)flipcut_start(matrix, matrix_len), flipcut_length(matrix, matrix_len),
+                         (int32_t *)flipcut_start(workspace, workspace_len), flipcut_length(workspace, workspace_len),
+                         (uint8_t *)flipcut_start(out, out_len), flipcut_length(out, out_len));
 }
 
-#define flipcut_check(file, len) flipcut_check_file(file, len)
-#define flipcut_score(matrix, matrix_len, answer, answer_len) \
-    flipcut_score_files(matrix, matrix_len, answer, answer_len)
+static inline uint64_t flipcut_split_lent(const uint8_t *matrix, size_t matrix_len, uint64_t group, int32_t *workspace,
+                                          size_t workspace_len, uint64_t *result) {
+    uint64_t unwanted[FLIPCUT_SPLIT_RESULTS] = {0};
+    return flipcut_split((const uint8_t *)flipcut_start(matrix, matrix_len), flipcut_length(matrix, matrix_len), group,
+                         (int32_t *)flipcut_start(workspace, workspace_len), flipcut_length(workspace, workspace_len),
+                         result == NULL ? unwanted : result);
+}
+
+static inline uint64_t flipcut_read_lent(const uint8_t *file, size_t len, struct flipcut_answer *answer,
+                                         struct flipcut_flip *list, size_t list_len) {
+    struct flipcut_answer unwanted = {0, 0, 0, 0, 0, {0}, {0}};
+    return flipcut_read((const uint8_t *)flipcut_start(file, len), flipcut_length(file, len),
+                        answer == NULL ? &unwanted : answer, (struct flipcut_flip *)flipcut_start(list, list_len),
+                        flipcut_length(list, list_len));
+}
+
+static inline uint64_t flipcut_write_lent(const struct flipcut_answer *answer, const struct flipcut_flip *list,
+                                          size_t list_len, uint8_t *out, size_t out_len) {
+    const struct flipcut_answer zeros = {0, 0, 0, 0, 0, {0}, {0}};
+    return flipcut_write(answer == NULL ? &zeros : answer, (const struct flipcut_flip *)flipcut_start(list, list_len),
+                         flipcut_length(list, list_len), (uint8_t *)flipcut_start(out, out_len),
+                         flipcut_length(out, out_len));
+}
+
+static inline uint64_t flipcut_score_lent(const uint8_t *matrix, size_t matrix_len, const uint8_t *answer,
+                                          size_t answer_len) {
+    return flipcut_score((const uint8_t *)flipcut_start(matrix, matrix_len), flipcut_length(matrix, matrix_len),
+                         (const uint8_t *)flipcut_start(answer, answer_len), flipcut_length(answer, answer_len));
+}
+
+#define flipcut_check(file, len) flipcut_check_lent(file, len)
+#define flipcut_build(matrix, matrix_len, workspace, workspace_len, out, out_len) \
+    flipcut_build_lent(matrix, matrix_len, workspace, workspace_len, out, out_len)
+#define flipcut_split(matrix, matrix_len, group, workspace, workspace_len, result) \
+    flipcut_split_lent(matrix, matrix_len, group, workspace, workspace_len, result)
+#define flipcut_read(file, len, answer, list, list_len) flipcut_read_lent(file, len, answer, list, list_len)
+#define flipcut_write(answer, list, list_len, out, out_len) flipcut_write_lent(answer, list, list_len, out, out_len)
+#define flipcut_score(matrix, matrix_len, answer, answer_len) flipcut_score_lent(matrix, matrix_len, answer, answer_len)
 
 /* The bits of a packed number from `low` on, `width` of them. */
 static inline uint64_t flipcut_bits(uint64_t packed, unsigned low, unsigned width) {
@@ -82,25 +174,39 @@ static inline uint64_t flipcut_place(uint64_t packed) {
     return flipcut_refused(packed) ? flipcut_bits(packed, 8, 55) : 0;
 }
 
-/* flipcut_check: the number of taxa n, 0 on a refusal. */
+/* A result of a call that succeeded, 0 on a refusal. */
+static inline uint64_t flipcut_result(uint64_t packed, unsigned low, unsigned width) {
+    return flipcut_refused(packed) ? 0 : flipcut_bits(packed, low, width);
+}
+
+/* flipcut_check: the number of taxa n. */
 static inline unsigned flipcut_taxa(uint64_t packed) {
-    return flipcut_refused(packed) ? 0 : (unsigned)flipcut_bits(packed, 0, 16);
+    return (unsigned)flipcut_result(packed, 0, 16);
 }
 
-/* flipcut_check: the number of columns m, 0 on a refusal. */
+/* flipcut_check: the number of columns m. */
 static inline unsigned flipcut_columns(uint64_t packed) {
-    return flipcut_refused(packed) ? 0 : (unsigned)flipcut_bits(packed, 16, 16);
+    return (unsigned)flipcut_result(packed, 16, 16);
 }
 
-/* flipcut_score: what is raised from 0 to 1, each times its column's weight and its taxon's
- * multiplicity, 0 on a refusal. */
+/* flipcut_build and flipcut_write: how many bytes were written. */
+static inline size_t flipcut_written(uint64_t packed) {
+    return (size_t)flipcut_result(packed, 32, 31);
+}
+
+/* flipcut_build: the total, which is the sum of the split costs. */
+static inline uint32_t flipcut_total(uint64_t packed) {
+    return (uint32_t)flipcut_result(packed, 0, 32);
+}
+
+/* flipcut_score: what is raised from 0 to 1, each times its column's weight and its taxon's multiplicity. */
 static inline uint32_t flipcut_raises(uint64_t packed) {
-    return flipcut_refused(packed) ? 0 : (uint32_t)flipcut_bits(packed, 31, 31);
+    return (uint32_t)flipcut_result(packed, 31, 31);
 }
 
-/* flipcut_score: what is lowered from 1 to 0, weighed the same way, 0 on a refusal. */
+/* flipcut_score: what is lowered from 1 to 0, weighed the same way. */
 static inline uint32_t flipcut_lowers(uint64_t packed) {
-    return flipcut_refused(packed) ? 0 : (uint32_t)flipcut_bits(packed, 0, 31);
+    return (uint32_t)flipcut_result(packed, 0, 31);
 }
 
 #endif

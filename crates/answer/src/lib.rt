@@ -20,7 +20,8 @@ ghost use Rattle.answer.specs.Content.{answerOf};
 ghost use Rattle.answer.specs.Reading.{empty, Reads};
 ghost use Rattle.answer.specs.Writing.{WritesLists};
 
-// What an answer holds beside its flips, in file widths; the groups have 63 places, those past the last 0.
+// What an answer holds beside its flips, in file widths; the groups have 63 places, those past the last 0. As C lays it out, so that C can lend one.
+#[repr(C)]
 pub struct Answer {
     pub n: u16,
     pub m: u16,

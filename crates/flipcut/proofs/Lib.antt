@@ -1,2 +1,3 @@
--- Unpacking gives back what was packed.
+-- What C gets fits its bits, and unpacking gives back what was packed.
+pub mod Fitting
 pub mod Unpacking

@@ -1,2 +1,4 @@
--- The packed numbers that C gets.
+-- What C gets: packed numbers, and how they are taken apart.
 pub mod Packed
+pub mod Unpacked
+pub mod inner

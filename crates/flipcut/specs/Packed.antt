@@ -1,16 +1,31 @@
 -- The packed numbers that C gets, one of 64 bits for each call. Bit 63 says whether the call was refused. If it was, bits 0 to 7 are the refusal's number
--- and bits 8 to 62 its place. If not: of the check, n is in bits 0 to 15 and m in bits 16 to 31; of the score, lowers are in bits 0 to 30 and raises in
--- bits 31 to 61. include/flipcut.h takes them apart as `unpacked` and `unpackedScore` do.
-use mathlib.Core.Bool.{cond}
-use Prim.Native.Nat.{ℕ, _+_, _*_, _/_, _%_, _^_}
-use lib.Dec.{eqb}
+-- and bits 8 to 62 its place. If not: of the check, n is in bits 0 to 15 and m in bits 16 to 31; of the build, the total is in bits 0 to 31 and the length
+-- written in bits 32 to 62, where writing has it too; of the score, lowers are in bits 0 to 30 and raises in bits 31 to 61. What the split and
+-- the reading find does not fit, and is put into memory that is lent for it.
+use mathlib.Core.Path.{_≡_}
+use mathlib.Core.List.{List}
+use Prim.Native.Nat.{ℕ, _+_, _*_, _^_}
+use lib.IntN.{ℤ}
+use lib.ListN.{set}
 use Rattle.record.specs.declared.Refusal.{Refusal}
 use Rattle.matrix.specs.declared.Checked.{Checked}
 use Rattle.matrix.specs.declared.Checked.the-variants.{Taken, Refused}
-use Rattle.matrix.specs.Check.{Returned}
+use Rattle.answer.specs.declared.Answer.{Answer}
+use Rattle.answer.specs.declared.Reading.{Reading}
+use Rattle.answer.specs.declared.Verdict.{Verdict}
+use Rattle.answer.specs.declared.Verdict.the-variants as verdict
+use Rattle.answer.specs.declared.Written.{Written}
+use Rattle.answer.specs.declared.Written.the-variants as written
+use Rattle.entries.specs.declared.Flip.{Flip}
+use Rattle.entries.specs.Entries.{ReadsEntries, WritesEntries}
+use Rattle.split.specs.declared.Divided.{Divided}
+use Rattle.split.specs.declared.Divided.the-variants as splits
+use Rattle.split.specs.Operation.{Splits}
+use Rattle.tree.specs.declared.Built.{Built}
+use Rattle.tree.specs.declared.Built.the-variants as builds
+use Rattle.tree.specs.Build.{Builds}
 use Rattle.score.specs.declared.Scored.{Scored}
 use Rattle.score.specs.declared.Scored.the-variants as scores
-use Rattle.score.specs.Operation as score
 
 -- A refusal, packed.
 abbrev pub packedRefusal : Refusal → ℕ
@@ -21,25 +36,60 @@ abbrev pub packed : Checked → ℕ
 packed (Taken n m) = n + 65536 * m
 packed (Refused why) = packedRefusal why
 
--- What the score answers, packed.
+-- What the build answers.
+abbrev pub packedBuild : Built → ℕ
+packedBuild (builds.Taken size sum) = sum + 2 ^ 32 * size
+packedBuild (builds.Refused why) = packedRefusal why
+
+-- What the split answers: 0, and the rest where it is lent.
+abbrev pub packedSplit : Divided → ℕ
+packedSplit (splits.Taken cost A t) = 0
+packedSplit (splits.Refused why) = packedRefusal why
+
+-- What reading answers: 0, and the rest where it is lent.
+abbrev pub packedRead : Verdict → ℕ
+packedRead verdict.Taken = 0
+packedRead (verdict.Refused why) = packedRefusal why
+
+-- What writing answers.
+abbrev pub packedWrite : Written → ℕ
+packedWrite (written.Length size) = 2 ^ 32 * size
+packedWrite (written.Refused why) = packedRefusal why
+
+-- What the score answers.
 abbrev pub packedScore : Scored → ℕ
 packedScore (scores.Taken raises lowers) = lowers .0 + 2 ^ 31 * raises .0
 packedScore (scores.Refused why) = packedRefusal why
 
--- The bits of a packed number from `low` on, `width` of them.
-abbrev pub bits : ℕ → ℕ → ℕ → ℕ
-bits v low width = v / 2 ^ low % 2 ^ width
+-- What a split's three lent numbers are at the end: its cost, its side A and t; on a refusal what they were.
+abbrev pub resultAfter : Divided → List ℕ → List ℕ
+resultAfter (splits.Taken cost A t) result = set (set (set result 0 cost) 1 A) 2 t
+resultAfter (splits.Refused why) result = result
 
--- The number, the place, n and m of a packed check.
-unfoldable pub unpacked : ℕ → Returned
-unpacked v =
-    cond (eqb (bits v 63 1) 1)
-    (record { number = bits v 0 8; place = bits v 8 55; n = 0; m = 0 })
-    (record { number = 0; place = 0; n = bits v 0 16; m = bits v 16 16 })
+-- What the lent value is at the end: the one that was read; on a refusal what it was.
+abbrev pub answerAfter : Verdict → Answer → Answer → Answer
+answerAfter verdict.Taken read before = read
+answerAfter (verdict.Refused why) read before = before
 
--- The number, the place, raises and lowers of a packed score.
-unfoldable pub unpackedScore : ℕ → score.Returned
-unpackedScore v =
-    cond (eqb (bits v 63 1) 1)
-    (record { number = bits v 0 8; place = bits v 8 55; raises = 0; lowers = 0 })
-    (record { number = 0; place = 0; raises = bits v 31 31; lowers = bits v 0 31 })
+-- A number that is some answer of an operation, packed, with what the operation promises of that answer.
+pub record Packs {A : Type 0} (pack : A → ℕ) (Promised : A → Type 0) (v : ℕ) : Type 0 where
+  pub answer : A
+  pub packs : v ≡ pack answer
+  pub promised : Promised answer
+
+-- What the build promises C.
+abbrev pub BuildsPacked : List ℕ → List ℤ → List ℕ → ℕ → List ℤ → List ℕ → Type 0
+BuildsPacked file ws out v ws′ out′ = Packs packedBuild (λ r. Builds file ws out r ws′ out′) v
+
+-- What the split promises C; three numbers are lent for what it finds.
+abbrev pub SplitsPacked : List ℕ → ℕ → List ℤ → List ℕ → ℕ → List ℤ → List ℕ → Type 0
+SplitsPacked file S ws result v ws′ result′ = Packs packedSplit (λ r. Splits file S ws r ws′ × (result′ ≡ resultAfter r result)) v
+
+-- What reading promises C; a value is lent for what it reads beside the flips.
+abbrev pub ReadsPacked : List ℕ → Answer → List Flip → ℕ → Answer → List Flip → Type 0
+ReadsPacked file answer list v answer′ list′ =
+    Packs (λ (r : Reading). packedRead (r .verdict)) (λ r. ReadsEntries file list r list′ × (answer′ ≡ answerAfter (r .verdict) (r .answer) answer)) v
+
+-- What writing promises C.
+abbrev pub WritesPacked : Answer → List Flip → List ℕ → ℕ → List ℕ → Type 0
+WritesPacked answer list out v out′ = Packs packedWrite (λ r. WritesEntries answer list out r out′) v

@@ -4,23 +4,27 @@ use answer::Answer;
 use answer::Reading;
 use answer::Written;
 use entries::Flip;
+use flipcut::answers::flipcut_read;
+use flipcut::answers::flipcut_write;
 use matrix::Checked;
 ghost use Rattle.answer.specs.Reading.{Reads};
 ghost use Rattle.answer.specs.Writing.{WritesLists};
-ghost use Rattle.entries.specs.Entries.{ReadsEntries, WritesEntries};
 ghost use Rattle.record.specs.Bytes.{File};
+ghost use Rattle.flipcut.specs.Packed.{ReadsPacked, WritesPacked};
 ghost use Rattle.promises.specs.Held.{InWidths};
 
-pub fn read_entries(file: &[u8], list: &mut [Flip]) -> Reading
-    ensures { λ r. ⌜ ReadsEntries (now (file .entry)) (now (list .entry)) r (now (list .exit)) ⌝ }
+// Read an answer, as C calls it: `entries::read_answer`, and what it answers packed.
+pub fn read_from_c(file: &[u8], answer: &mut Answer, list: &mut [Flip]) -> u64
+    ensures { λ r. ⌜ ReadsPacked (now (file .entry)) (now (answer .entry)) (now (list .entry)) r (now (answer .exit)) (now (list .exit)) ⌝ }
 {
-    entries::read_answer(file, list)
+    flipcut_read(file, answer, list)
 }
 
-pub fn write_entries(answer: Answer, list: &[Flip], out: &mut [u8]) -> Written
-    ensures { λ r. ⌜ WritesEntries answer (now (list .entry)) (now (out .entry)) r (now (out .exit)) ⌝ }
+// Write an answer, as C calls it: `entries::write_answer`, and what it answers packed.
+pub fn write_from_c(answer: &Answer, list: &[Flip], out: &mut [u8]) -> u64
+    ensures { λ r. ⌜ WritesPacked (now (answer .entry)) (now (list .entry)) (now (out .entry)) r (now (out .exit)) ⌝ }
 {
-    entries::write_answer(answer, list, out)
+    flipcut_write(answer, list, out)
 }
 
 pub fn read_lists(

@@ -1,7 +1,9 @@
 // The operations, called as any caller calls them. Each contract here is the operation's own definition, so one that were weakened there, or asked
 // for more there, would leave its proof here without a reason.
-use flipcut::flipcut_check;
-use flipcut::flipcut_score;
+use flipcut::matrices::flipcut_build;
+use flipcut::matrices::flipcut_check;
+use flipcut::matrices::flipcut_score;
+use flipcut::matrices::flipcut_split;
 use matrix::Checked;
 use score::Scored;
 use search::Split;
@@ -18,7 +20,7 @@ ghost use Rattle.search.specs.Workspace.{Kept};
 ghost use Rattle.split.specs.Operation.{Splits};
 ghost use Rattle.tree.specs.Build.{Builds};
 ghost use Rattle.score.specs.Operation.{Scores, scored};
-ghost use Rattle.flipcut.specs.Packed.{packed, packedScore};
+ghost use Rattle.flipcut.specs.Packed.{packed, packedScore, BuildsPacked, SplitsPacked};
 ghost use Rattle.promises.specs.Held.{FlowStands};
 
 // Check a matrix.
@@ -54,6 +56,27 @@ pub fn check_from_c(file: &[u8]) -> u64
     ensures { λ r. ⌜ r ≡ packed (checked (now (file .entry))) ⌝ }
 {
     flipcut_check(file)
+}
+
+// Build, as C calls it.
+pub fn build_from_c(matrix: &[u8], workspace: &mut [i32], out: &mut [u8]) -> u64
+    ensures { λ r. ⌜
+        BuildsPacked (now (matrix .entry)) (now (workspace .entry)) (now (out .entry)) r (now (workspace .exit)) (now (out .exit)) ⌝ }
+{
+    flipcut_build(matrix, workspace, out)
+}
+
+// Split a group, as C calls it.
+pub fn split_from_c(
+    matrix: &[u8],
+    group: u64,
+    workspace: &mut [i32],
+    result: &mut [u64; 3],
+) -> u64
+    ensures { λ r. ⌜
+        SplitsPacked (now (matrix .entry)) group (now (workspace .entry)) (now (result .entry)) r (now (workspace .exit)) (now (result .exit)) ⌝ }
+{
+    flipcut_split(matrix, group, workspace, result)
 }
 
 // Score, as C calls it.

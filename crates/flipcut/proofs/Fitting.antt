@@ -1,0 +1,74 @@
+-- What every operation answers fits the bits that it is packed into, for any file.
+use mathlib.Core.Path.{_≡_, refl}
+use mathlib.Core.List.{List}
+use Prim.Native.Nat.{ℕ}
+use native.Mathlib.Omega.{arith}
+use Rattle.record.specs.Bytes.{File}
+use Rattle.matrix.specs.declared.Checked.{Checked}
+use Rattle.matrix.specs.declared.Checked.the-variants as checks
+use Rattle.matrix.specs.Check.{checked}
+use Rattle.matrix.proofs.Places.{refusal-small}
+use Rattle.matrix.proofs.Taken.{taken-legal, taken-taxa, taken-columns}
+use Rattle.answer.specs.declared.Verdict.{Verdict}
+use Rattle.answer.specs.declared.Verdict.the-variants as verdict
+use Rattle.answer.specs.declared.Written.{Written}
+use Rattle.answer.specs.declared.Written.the-variants as written
+use Rattle.answer.specs.Content.{Content}
+use Rattle.answer.specs.Reading.{reading}
+use Rattle.answer.specs.Writing.{writing}
+use Rattle.answer.proofs.Places.{reading-small, writing-small, writing-size}
+use Rattle.split.specs.declared.Divided.{Divided}
+use Rattle.split.specs.declared.Divided.the-variants as splits
+use Rattle.split.specs.Operation.{divided}
+use Rattle.split.proofs.Places.{split-refused-small}
+use Rattle.tree.specs.declared.Built.{Built}
+use Rattle.tree.specs.declared.Built.the-variants as builds
+use Rattle.tree.specs.Build.{built}
+use Rattle.tree.proofs.Places.{built-small, build-refused-small}
+use Rattle.score.specs.declared.Scored.{Scored}
+use Rattle.score.specs.declared.Scored.the-variants as scores
+use Rattle.score.specs.Operation.{scored}
+use Rattle.score.proofs.Places.{Small, score-small}
+use Rattle.flipcut.specs.inner.Fitting.{CheckFits, BuildFits, SplitFits, ReadFits, WriteFits, ScoreFits}
+
+pub check-fits : {file : List ℕ} → File file → CheckFits (checked file)
+check-fits {file} f = go (checked file) refl
+  where
+    go : (a : Checked) → a ≡ checked file → CheckFits a
+    go (checks.Taken n m) e = let fits = taken-legal f e in (omega (arith, fits .taxa-fit, taken-taxa f e), omega (arith, fits .columns-fit, taken-columns f e))
+    go (checks.Refused why) e = let (near, some, small, other) = refusal-small file e in (omega arith, omega arith)
+
+pub build-fits : {file : List ℕ} → File file → (space room : ℕ) → BuildFits (built file space room)
+build-fits {file} f space room = go (built file space room) refl
+  where
+    go : (a : Built) → a ≡ built file space room → BuildFits a
+    go (builds.Taken size sum) e = let (short, small) = built-small f space room e in (omega arith, omega arith)
+    go (builds.Refused why) e = let (near, few) = build-refused-small file space room e in (omega arith, omega arith)
+
+pub split-fits : (file : List ℕ) (S room : ℕ) → SplitFits (divided file S room)
+split-fits file S room = go (divided file S room) refl
+  where
+    go : (a : Divided) → a ≡ divided file S room → SplitFits a
+    go (splits.Taken cost A t) e = tt
+    go (splits.Refused why) e = let (near, few) = split-refused-small file S room e in (omega arith, omega arith)
+
+pub read-fits : (file : List ℕ) (room : ℕ) → ReadFits (reading file room .verdict)
+read-fits file room = go (reading file room .verdict) refl
+  where
+    go : (a : Verdict) → a ≡ reading file room .verdict → ReadFits a
+    go verdict.Taken e = tt
+    go (verdict.Refused why) e = let (near, few) = reading-small file room e in (omega arith, omega arith)
+
+pub write-fits : (c : Content) (listed room : ℕ) → WriteFits (writing c listed room)
+write-fits c listed room = go (writing c listed room) refl
+  where
+    go : (a : Written) → a ≡ writing c listed room → WriteFits a
+    go (written.Length size) e = let short = writing-size c listed room e in omega arith
+    go (written.Refused why) e = let (near, few) = writing-small c listed room e in (omega arith, omega arith)
+
+pub score-fits : {matrix : List ℕ} → File matrix → (answer : List ℕ) → ScoreFits (scored matrix answer)
+score-fits {matrix} f answer = go (scored matrix answer) (score-small f answer)
+  where
+    go : (a : Scored) → Small a → ScoreFits a
+    go (scores.Taken up down) small = small
+    go (scores.Refused why) (near, few) = (omega arith, omega arith)

@@ -1,0 +1,16 @@
+-- `flipcut::matrices::flipcut_build` meets its contract: what the operation answers fits its bits.
+use borrow.Author.Needs.{needs}
+use native.Mathlib.Omega.{arith}
+use Rattle.flipcut.proofs.Fitting.{build-fits}
+use Rattle.flipcut.proofs.matrices.flipcut_build.Statement.{statement}
+use Rattle.flipcut.proofs.matrices.flipcut_build.Tie as tie
+
+pub flipcut-build-spec : {M : Type 1} → statement M
+flipcut-build-spec =
+    tie.close
+    (tie.spec
+    (λ c κs. search needs)
+    (λ c κs. let built = c .before .before .before in rw (built .build .ensures .answers) (build-fits (record { byte = λ i. omega (arith, built .before .before .before .before .shared-slice-known .given i) }) _ _))
+    (λ c. search needs)
+    (λ c. search needs)
+    (λ c. search needs))
