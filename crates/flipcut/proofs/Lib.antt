@@ -1,3 +1,4 @@
--- What C gets fits its bits, and unpacking gives back what was packed.
+-- What C gets fits its bits, comes back out of them, and is what document 01 has the operations return.
 pub mod Fitting
+pub mod Bits
 pub mod Unpacking

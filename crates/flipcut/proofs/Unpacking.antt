@@ -1,163 +1,25 @@
 -- What C takes apart are the numbers that document 01 has the operation return: of the check (`check-unpacks`), the build (`build-unpacks`), the split
 -- (`split-unpacks`), reading (`read-unpacks`), writing (`write-unpacks`) and the score (`score-unpacks`).
-use mathlib.Core.Path.{_≡_, refl, sym, _∙_, ap}
-use mathlib.Core.List.{List, [], _∷_}
-use Prim.Native.Nat.{ℕ, _+_, _*_, _^_, _<_}
-use native.Mathlib.Omega.{arith}
+use mathlib.Core.Path.{_≡_, _∙_, ap}
+use mathlib.Core.List.{List}
+use Prim.Native.Nat.{ℕ}
 use lib.IntN.{ℤ}
-use lib.ListN.{length, getD, set}
-use borrow.Author.Tests.{eq-eqb, ne-eqb}
+use lib.ListN.{length}
 use Rattle.record.specs.Bytes.{File}
-use Rattle.record.specs.declared.Passed.{Passed}
-use Rattle.record.specs.declared.Passed.the-variants as passed
-use Rattle.record.specs.declared.Refusal.{Refusal}
-use Rattle.matrix.specs.declared.Checked.{Checked}
-use Rattle.matrix.specs.declared.Checked.the-variants as checks
-use Rattle.matrix.specs.Check as check
 use Rattle.matrix.specs.Check.{checked, checkNumbers}
 use Rattle.answer.specs.declared.Answer.{Answer}
-use Rattle.answer.specs.declared.Verdict.{Verdict}
-use Rattle.answer.specs.declared.Verdict.the-variants as verdict
-use Rattle.answer.specs.declared.Written.{Written}
-use Rattle.answer.specs.declared.Written.the-variants as written
-use Rattle.answer.specs.Content.{Content, contentIn, answerOf}
-use Rattle.answer.specs.Reading as reading
-use Rattle.answer.specs.Reading.{empty, answered, readTests, readNumbers}
-use Rattle.answer.specs.Writing as writing
+use Rattle.answer.specs.Content.{contentIn}
+use Rattle.answer.specs.Reading.{readTests, reading, readNumbers}
 use Rattle.answer.specs.Writing.{writeNumbers}
 use Rattle.entries.specs.declared.Flip.{Flip}
 use Rattle.entries.specs.Entries.{entryContent}
-use Rattle.split.specs.declared.Divided.{Divided}
-use Rattle.split.specs.declared.Divided.the-variants as splits
-use Rattle.split.specs.Operation as split
 use Rattle.split.specs.Operation.{splitNumbers}
-use Rattle.tree.specs.declared.Built.{Built}
-use Rattle.tree.specs.declared.Built.the-variants as builds
-use Rattle.tree.specs.Build as build
 use Rattle.tree.specs.Build.{buildNumbers}
-use Rattle.score.specs.declared.Scored.{Scored}
-use Rattle.score.specs.declared.Scored.the-variants as scores
-use Rattle.score.specs.Operation as score
 use Rattle.score.specs.Operation.{scored, scoreNumbers}
-use Rattle.flipcut.specs.Packed.{packed, packedBuild, packedRead, packedRefusal, packedScore, packedSplit, packedWrite, resultAfter, answerAfter, BuildsPacked, SplitsPacked, ReadsPacked, WritesPacked}
-use Rattle.flipcut.specs.Unpacked.{bits, numberIn, placeIn, resultIn, lentResult, unpacked, unpackedBuild, unpackedRead, unpackedScore, unpackedSplit, unpackedWrite}
-use Rattle.flipcut.specs.inner.Fitting.{RefusalFits, CheckFits, BuildFits, SplitFits, ReadFits, WriteFits, ScoreFits}
+use Rattle.flipcut.specs.Packed.{packed, packedScore, BuildsPacked, SplitsPacked, ReadsPacked, WritesPacked}
+use Rattle.flipcut.specs.Unpacked.{unpacked, unpackedBuild, unpackedRead, unpackedScore, unpackedSplit, unpackedWrite}
 use Rattle.flipcut.proofs.Fitting.{check-fits, build-fits, split-fits, read-fits, write-fits, score-fits}
-
--- ---- the bits
-
--- A refusal that fits.
-module _ (why : Refusal) (fits : RefusalFits why) where
-  abbrev v : ℕ
-  v = packedRefusal why
-
-  flag : bits v 63 1 ≡ 1
-  flag = omega arith
-
-  number : numberIn v ≡ why .number
-  unfolding numberIn
-  number = rw (eq-eqb _ _ flag) (omega arith)
-
-  place : placeIn v ≡ why .place
-  unfolding placeIn
-  place = rw (eq-eqb _ _ flag) (omega arith)
-
-  no-result : (low width : ℕ) → resultIn v low width ≡ 0
-  unfolding resultIn
-  no-result low width = rw (eq-eqb _ _ flag) refl
-
-  none-lent : {X : Type 0} (none lent : X) → lentResult v none lent ≡ none
-  unfolding lentResult
-  none-lent none lent = rw (eq-eqb _ _ flag) refl
-
--- A number below bit 63.
-module _ (v : ℕ) (low : v < 2 ^ 63) where
-  clear : bits v 63 1 ≡ 0
-  clear = omega arith
-
-  no-number : numberIn v ≡ 0
-  unfolding numberIn
-  no-number = rw (ne-eqb (bits v 63 1) 1 (omega (arith, clear))) refl
-
-  no-place : placeIn v ≡ 0
-  unfolding placeIn
-  no-place = rw (ne-eqb (bits v 63 1) 1 (omega (arith, clear))) refl
-
-  result : (from width : ℕ) → resultIn v from width ≡ bits v from width
-  unfolding resultIn
-  result from width = rw (ne-eqb (bits v 63 1) 1 (omega (arith, clear))) refl
-
-  lent-result : {X : Type 0} (none lent : X) → lentResult v none lent ≡ lent
-  unfolding lentResult
-  lent-result none lent = rw (ne-eqb (bits v 63 1) 1 (omega (arith, clear))) refl
-
--- ---- each operation's answer
-
-check-returns : (a : Checked) → CheckFits a → unpacked (packed a) ≡ check.returned a
-check-returns (checks.Taken n m) (l, k) =
-    let v = n + 65536 * m in
-    let low : v < 2 ^ 63 = omega arith in
-    let first : bits v 0 16 ≡ n = omega arith in
-    let second : bits v 16 16 ≡ m = omega arith in
-    λ i. record { number = no-number v low i; place = no-place v low i; n = (result v low 0 16 ∙ first) i; m = (result v low 16 16 ∙ second) i }
-check-returns (checks.Refused why) fits = λ i. record { number = number why fits i; place = place why fits i; n = no-result why fits 0 16 i; m = no-result why fits 16 16 i }
-
-build-returns : (a : Built) → BuildFits a → unpackedBuild (packedBuild a) ≡ build.returned a
-build-returns (builds.Taken size sum) (l, k) =
-    let v = sum + 2 ^ 32 * size in
-    let low : v < 2 ^ 63 = omega arith in
-    let first : bits v 32 31 ≡ size = omega arith in
-    let second : bits v 0 32 ≡ sum = omega arith in
-    λ i. record { number = no-number v low i; place = no-place v low i; size = (result v low 32 31 ∙ first) i; sum = (result v low 0 32 ∙ second) i }
-build-returns (builds.Refused why) fits =
-    λ i. record { number = number why fits i; place = place why fits i; size = no-result why fits 32 31 i; sum = no-result why fits 0 32 i }
-
--- Three numbers, each set.
-all-set : (xs : List ℕ) → length xs ≡ 3 → (a b c : ℕ) → set (set (set xs 0 a) 1 b) 2 c ≡ a ∷ b ∷ c ∷ []
-all-set [] e a b c = absurd (omega arith)
-all-set (x ∷ []) e a b c = absurd (omega arith)
-all-set (x ∷ y ∷ []) e a b c = absurd (omega arith)
-all-set (x ∷ y ∷ z ∷ []) e a b c = refl
-all-set (x ∷ y ∷ z ∷ w ∷ ws) e a b c = absurd (omega arith)
-
-split-returns : (a : Divided) → SplitFits a → (before : List ℕ) → length before ≡ 3 → unpackedSplit (packedSplit a) (resultAfter a before) ≡ split.returned a
-split-returns (splits.Taken cost A t) fits before three =
-    let low : _<_ 0 (2 ^ 63) = omega arith in
-    let lent : (k : ℕ) → lentResult 0 0 (getD (resultAfter (splits.Taken cost A t) before) k 0) ≡ getD (cost ∷ A ∷ t ∷ []) k 0
-        = λ k. lent-result 0 low 0 _ ∙ ap (λ (xs : List ℕ). getD xs k 0) (all-set before three cost A t) in
-    λ i. record { number = no-number 0 low i; place = no-place 0 low i; cost = lent 0 i; side = lent 1 i; t = lent 2 i }
-split-returns (splits.Refused why) fits before three =
-    let none : (k : ℕ) → lentResult (packedRefusal why) 0 (getD before k 0) ≡ 0 = λ k. none-lent why fits 0 (getD before k 0) in
-    λ i. record { number = number why fits i; place = place why fits i; cost = none 0 i; side = none 1 i; t = none 2 i }
-
--- Of a refused reading the value is that of an empty content.
-read-returns : (c : Content) (p : Passed) (before : Answer) → let r = answered c p in
-    ReadFits (r .verdict) → unpackedRead (packedRead (r .verdict)) (answerAfter (r .verdict) (r .answer) before) ≡ reading.returned r
-read-returns c (passed.At here) before fits =
-    let low : _<_ 0 (2 ^ 63) = omega arith in
-    λ i. record { number = no-number 0 low i; place = no-place 0 low i; answer = lent-result 0 low (answerOf empty) (answerOf c) i }
-read-returns c (passed.Refused why) before fits =
-    λ i. record { number = number why fits i; place = place why fits i; answer = none-lent why fits (answerOf empty) before i }
-
-write-returns : (a : Written) → WriteFits a → unpackedWrite (packedWrite a) ≡ writing.returned a
-write-returns (written.Length size) fits =
-    let v = 2 ^ 32 * size in
-    let low : v < 2 ^ 63 = omega arith in
-    let first : bits v 32 31 ≡ size = omega arith in
-    λ i. record { number = no-number v low i; place = no-place v low i; size = (result v low 32 31 ∙ first) i }
-write-returns (written.Refused why) fits = λ i. record { number = number why fits i; place = place why fits i; size = no-result why fits 32 31 i }
-
-score-returns : (a : Scored) → ScoreFits a → unpackedScore (packedScore a) ≡ score.returned a
-score-returns (scores.Taken up down) (l, k) =
-    let v = down .0 + 2 ^ 31 * up .0 in
-    let low : v < 2 ^ 63 = omega arith in
-    let first : bits v 31 31 ≡ up .0 = omega arith in
-    let second : bits v 0 31 ≡ down .0 = omega arith in
-    λ i. record { number = no-number v low i; place = no-place v low i; raises = (result v low 31 31 ∙ first) i; lowers = (result v low 0 31 ∙ second) i }
-score-returns (scores.Refused why) fits =
-    λ i. record { number = number why fits i; place = place why fits i; raises = no-result why fits 31 31 i; lowers = no-result why fits 0 31 i }
-
--- ---- "unpacking gives back the numbers of document 01"
+use Rattle.flipcut.proofs.Bits.{check-returns, build-returns, split-returns, read-returns, write-returns, score-returns}
 
 pub check-unpacks : {file : List ℕ} → File file → unpacked (packed (checked file)) ≡ checkNumbers file
 check-unpacks {file} f = check-returns (checked file) (check-fits f)
@@ -174,7 +36,7 @@ split-unpacks {file} {S} {result = before} three p =
 
 pub read-unpacks : {file : List ℕ} {list list′ : List Flip} {answer answer′ : Answer} {v : ℕ} → ReadsPacked file answer list v answer′ list′
     → unpackedRead v answer′ ≡ readNumbers file (length list)
-unfolding reading.reading
+unfolding reading
 read-unpacks {file} {list} {answer = before} p =
     let (reads, after) = p .promised in
     rw (p .packs, after, reads .answers) (read-returns (contentIn file) (readTests file (length list)) before (read-fits file (length list)))

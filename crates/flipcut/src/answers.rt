@@ -1,8 +1,8 @@
 // The operations on an answer file, as C calls them. A function that has a list of entries, or a value behind a reference, is proved by hand, so these
 // two only call.
+use super::pack;
 use answer::Answer;
 use entries::Flip;
-use super::pack;
 ghost use Rattle.flipcut.specs.Packed.{ReadsPacked, WritesPacked};
 
 #[no_mangle]

@@ -67,12 +67,7 @@ pub fn build_from_c(matrix: &[u8], workspace: &mut [i32], out: &mut [u8]) -> u64
 }
 
 // Split a group, as C calls it.
-pub fn split_from_c(
-    matrix: &[u8],
-    group: u64,
-    workspace: &mut [i32],
-    result: &mut [u64; 3],
-) -> u64
+pub fn split_from_c(matrix: &[u8], group: u64, workspace: &mut [i32], result: &mut [u64; 3]) -> u64
     ensures { λ r. ⌜
         SplitsPacked (now (matrix .entry)) group (now (workspace .entry)) (now (result .entry)) r (now (workspace .exit)) (now (result .exit)) ⌝ }
 {
