@@ -6,6 +6,7 @@ pub mod Lent
 pub mod Answers
 pub mod OneAnswer
 pub mod Entries
+pub mod FromC
 pub mod Tree
 pub mod Score
 pub mod Least
