@@ -83,8 +83,9 @@ prove() { # CRATE
     done
     wait "$job" || status=$?
     trap - INT TERM HUP
-    exec 9>&-
+    # Before another run has the lock, which takes rt's files away.
     progress
+    exec 9>&-
     [ ! -t 2 ] || printf '\r\033[K' >&2
     [ "$status" != 0 ] || return 0
     why=$(grep -m 1 '^rt: .*\(NOT PROVED\|FAILED\)' "$said" || tail -n 1 "$said")
@@ -119,4 +120,29 @@ tell() { # TEXT FILE
     [ "${last%% *}" = refused ] || return 0
     read -r word number word place <<<"$last"
     stop 1 "$2 is refused, with $number at byte $place: $(refusal_in_words "$number")"
+}
+
+# ---- the C programs of samples/
+
+# Compiles one with the proved library, runs it on files, and prints what it says.
+run_sample() { # NAME FILE...
+    local file said status=0
+    for file in "${@:2}"; do judge_file "$file"; done
+    . "$top/tests/env.sh"
+    archive flipcut
+    room=$(mktemp -d)
+    trap 'rm -rf "$room"' EXIT
+    "$cc" "${c_flags[@]}" -I "$top/include" "$top/samples/$1.c" "$top/target/staticlib/libflipcut.a" -o "$room/$1" ||
+        stop 3 "samples/$1.c could not be compiled"
+    said=$(${run[@]+"${run[@]}"} "$room/$1" "${@:2}") || status=$?
+    case $status in
+    0 | 1) ;;
+    2) exit 1 ;; # it told which file it could not read
+    *) stop 1 "the program ended early, with status $status" ;;
+    esac
+    # Where two files are named, it says a line of each.
+    case $#$said in
+    3*$'\n'*) tell "$said" "'$3'" ;;
+    *) tell "$said" "'$2'" ;;
+    esac
 }
