@@ -1,4 +1,4 @@
-// Whole builds of the matrices of cases.h (processor time): plain C of the same method, and the operation "build" of crate `tree`. Prints both times,
+// Whole builds of the matrices of cases.h (processor time): plain C of the same method, and the operation "build". Prints both times,
 // their ratio, how many numbers the workspace of the operation must have, and the stack that it used, found by painting it. Ends with 1 where the
 // answers differ.
 #define _GNU_SOURCE
@@ -31,7 +31,7 @@ int main(void) {
         deepest = used_stack > deepest ? used_stack : deepest;
         for (int which = PLAIN; which <= OURS; which++) all[which] += spent[which];
         printf("%-9s %-6s %2u groups  plain C %.4f s  build %.4f s  ratio %.2f  workspace %5zu numbers  stack %zu bytes\n", kind_name(k), weight_name(k), found,
-               spent[PLAIN], spent[OURS], spent[OURS] / spent[PLAIN], workspace_needed(probe_build), used_stack);
+               spent[PLAIN], spent[OURS], spent[OURS] / spent[PLAIN], workspace_needed(flipcut_build), used_stack);
         fflush(stdout);
     }
     printf("all: plain C %.3f s  build %.3f s  ratio %.2f  stack at most %zu bytes\n", all[PLAIN], all[OURS], all[OURS] / all[PLAIN], deepest);

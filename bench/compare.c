@@ -4,8 +4,8 @@
 #include "turns.h"
 #include <stdio.h>
 
-// The earlier library's probe_build, as bench/build.sh renames it.
-extern __typeof__(probe_build) earlier_build;
+// The earlier library's flipcut_build, as bench/build.sh renames it.
+extern Operation earlier_build;
 
 static size_t earlier(uint8_t *out) { return build_with(earlier_build, out); }
 
@@ -24,7 +24,7 @@ int main(void) {
             return 1;
         }
         for (int which = OLD; which <= NEW; which++) all[which] += least[which];
-        size_t before = workspace_needed(earlier_build), needed = workspace_needed(probe_build);
+        size_t before = workspace_needed(earlier_build), needed = workspace_needed(flipcut_build);
         printf("%-9s %-6s old %.4f s  new %.4f s  ratio %.2f  workspace old %5zu new %5zu numbers  lent old %5zu new %5zu bytes\n", kind_name(k),
                weight_name(k), least[OLD], least[NEW], least[NEW] / least[OLD], before, needed, lent(before), lent(needed));
         fflush(stdout);

@@ -18,8 +18,8 @@ headers=/usr/include/lemon
 [ -e $headers/preflow.h ] || add_package liblemon-dev
 ln -s $headers "$room"
 
-archive probe
-apart target/staticlib/libprobe.a "$room/probe.a"
+archive flipcut
+apart target/staticlib/libflipcut.a "$room/flipcut.a"
 # LEMON makes nodes and arcs before it fills them, inlined into the program, so the compiler warns in spite of -isystem.
-"$cxx" "${cxx_flags[@]}" "${apart_flags[@]}" -Wno-maybe-uninitialized -isystem "$room" bench/peer.cpp "$room/probe.a" -o "$room/peer"
+"$cxx" "${cxx_flags[@]}" "${apart_flags[@]}" -Wno-maybe-uninitialized -isystem "$room" bench/peer.cpp "$room/flipcut.a" -o "$room/peer"
 ${run[@]+"${run[@]}"} "$room/peer" "$@"

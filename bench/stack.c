@@ -1,43 +1,66 @@
 // The most stack that the operations use over the matrices of cases.h, the heavy ones with multiplicities too, a split's group being all taxa.
 // Build and split are measured in a library where both call the search's `divide`, and in one that has no other operation: there the compiler puts it into its only caller.
-// Ends with 1 where one uses more than document 02's C-16 allows, or where the check or the score uses more than include/flipcut.h says.
+// Ends with 1 where one uses more than document 02's C-16 allows a build and a split, or include/flipcut.h any other.
 //   stack FOLDER   also writes the matrices there, as files
 #define _GNU_SOURCE
 #include "cases.h"
 #include "../include/flipcut.h"
-#include "../tests/probe.h"
 #include <stdio.h>
 
-enum { MOST_FOR_BUILD = 40960, MOST_FOR_SPLIT = 12288, MOST_FOR_CHECK = 1024, MOST_FOR_SCORE = 4096 };  // bytes
+// bytes
+enum {
+    MOST_FOR_BUILD = 40960,
+    MOST_FOR_SPLIT = 12288,
+    MOST_FOR_READ = 12288,
+    MOST_FOR_WRITE = 12288,
+    MOST_FOR_SCORE = 4096,
+    MOST_FOR_CHECK = 1024
+};
 
 // What the crates of bench/stack.sh export: the length written, and side A; 0 for a refusal.
 uint64_t build_alone(const uint8_t *file, size_t len, int32_t *workspace, size_t workspace_len, uint8_t *out, size_t out_len);
 uint64_t split_alone(const uint8_t *file, size_t len, uint64_t group, int32_t *workspace, size_t workspace_len);
 
-static uint8_t out[OUT_LENGTH];
-static uint64_t result[5];
+static uint8_t out[OUT_LENGTH], again[OUT_LENGTH];
+static size_t written;  // the length of the build's answer, in `out`
+static struct flipcut_answer answer;
+static struct flipcut_flip flips[M];
+static uint64_t divided[FLIPCUT_SPLIT_RESULTS];
+static bool taken;  // whether the operation that ran last took what it was given
 
-static void build_of_one(void) { result[2] = build_alone(file, file_length, ws, N * M, out, OUT_LENGTH); }
-static void build_of_two(void) { probe_build(file, file_length, ws, N * M, out, OUT_LENGTH, result, 5); }
-static void split_of_one(void) { result[3] = split_alone(file, file_length, ~0ull, ws, N * M); }
-static void split_of_two(void) { probe_split(file, file_length, ~0ull, ws, N * M, result, 5); }
+static void build_of_one(void) {
+    written = build_alone(file, file_length, ws, N * M, out, OUT_LENGTH);
+    taken = written > 0;
+}
+static void build_of_two(void) {
+    written = flipcut_written(flipcut_build(file, file_length, ws, N * M, out, OUT_LENGTH));
+    taken = written > 0;
+}
+static void split_of_one(void) { taken = split_alone(file, file_length, ~0ull, ws, N * M) != 0; }
+static void split_of_two(void) {
+    taken = !flipcut_refused(flipcut_split(file, file_length, ~0ull, ws, N * M, divided));
+}
+static void read_back(void) { taken = !flipcut_refused(flipcut_read(out, written, &answer, flips, M)); }
+static void write_again(void) {
+    taken = flipcut_written(flipcut_write(&answer, flips, M, again, OUT_LENGTH)) == written;
+}
+static void score(void) { taken = !flipcut_refused(flipcut_score(file, file_length, out, written)); }
+static void check(void) { taken = !flipcut_refused(flipcut_check(file, file_length)); }
 
-static void check(void) { result[0] = flipcut_taxa(flipcut_check(file, file_length)); }
-static void score(void) { result[1] = !flipcut_refused(flipcut_score(file, file_length, out, result[2])); }
-
-// In this order, since the score is of the build's answer.
+// In this order, since what is read, written and scored is the build's answer.
 static struct {
     const char *name;
     void (*run)(void);
-    const uint64_t *answer;  // 0 for a refusal
     size_t most, used;
 } operations[] = {
-    {"build, one caller", build_of_one, &result[2], MOST_FOR_BUILD, 0},
-    {"build, two callers", build_of_two, &result[2], MOST_FOR_BUILD, 0},
-    {"score", score, &result[1], MOST_FOR_SCORE, 0},
-    {"check", check, &result[0], MOST_FOR_CHECK, 0},
-    {"split, one caller", split_of_one, &result[3], MOST_FOR_SPLIT, 0},
-    {"split, two callers", split_of_two, &result[3], MOST_FOR_SPLIT, 0},
+    {"build, one caller", build_of_one, MOST_FOR_BUILD, 0},
+    {"build, two callers", build_of_two, MOST_FOR_BUILD, 0},
+    {"read", read_back, MOST_FOR_READ, 0},
+    {"write", write_again, MOST_FOR_WRITE, 0},
+    {"score", score, MOST_FOR_SCORE, 0},
+    {"check", check, MOST_FOR_CHECK, 0},
+    {"split, one caller", split_of_one, MOST_FOR_SPLIT, 0},
+    {"split, two callers", split_of_two, MOST_FOR_SPLIT, 0},
 };
 enum { OPERATIONS = sizeof operations / sizeof *operations };
 
@@ -53,11 +76,10 @@ static int write_file(const char *folder, int k, int merged) {
 
 // False where an operation refused: then it used less stack than it may need.
 static int measure(void) {
-    memset(result, 0, sizeof result);
     for (int i = 0; i < OPERATIONS; i++) {
         size_t used = stack_used(operations[i].run);
         if (used > operations[i].used) operations[i].used = used;
-        if (!*operations[i].answer) return 0;
+        if (!taken) return 0;
     }
     return 1;
 }

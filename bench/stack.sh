@@ -1,7 +1,6 @@
 #!/usr/bin/env bash
-# Prints the most stack that the operations check, build, split and score, and the program `outline`, use over ten kinds of matrices of 64 taxa
-# and 256 columns, the heavy ones with multiplicities too, and ends with 1 where one of them uses more than document 02's C-16 allows (the limits
-# stand in bench/stack.c and tests/env.sh).
+# Prints the most stack that each operation and the program `outline` use over ten kinds of matrices of 64 taxa and 256 columns, the heavy ones with
+# multiplicities too, and ends with 1 where one of them uses more than it may (the limits stand in bench/stack.c and tests/env.sh).
 # A library with one operation has one caller of the search.
 set -euo pipefail
 here=$(cd "$(dirname "$0")" && pwd -P)
@@ -10,7 +9,6 @@ cd "$(dirname "$here")"
 . tests/env.sh
 . bench/alone.sh
 
-archive probe
 archive flipcut
 prove outline
 copy_crates
@@ -42,7 +40,7 @@ pub extern "C" fn split_alone(file: &[u8], group: u64, workspace: &mut [i32]) ->
 RT
 
 status=0
-"$cc" "${c_flags[@]}" bench/stack.c target/staticlib/lib{probe,flipcut}.a "$work"/target/staticlib/lib{build,split}_alone.a -o "$room/stack"
+"$cc" "${c_flags[@]}" bench/stack.c target/staticlib/libflipcut.a "$work"/target/staticlib/lib{build,split}_alone.a -o "$room/stack"
 ${run[@]+"${run[@]}"} "$room/stack" "$room" || status=1
 
 # Whether the program prints a file's tree with this much stack.

@@ -3,31 +3,30 @@
 #define TURNS_H
 
 #include "cases.h"
-#include "../tests/probe.h"
+#include "../include/flipcut.h"
 
 // A build of the case: the length of the answer file that it wrote, 0 for a refusal.
 typedef size_t Build(uint8_t *out);
 
-// The operation "build", as one library has it.
-static inline size_t build_with(__typeof__(probe_build) *probe, uint8_t *out) {
-    uint64_t result[5];
-    probe(file, file_length, ws, (size_t)(taxa * columns), out, OUT_LENGTH, result, 5);
-    return result[0] == 0 ? (size_t)result[2] : 0;
+// The operation "build", as one library has it: the function itself, since nothing here is null.
+typedef __typeof__(flipcut_build) Operation;
+
+static inline size_t build_with(Operation *build, uint8_t *out) {
+    return flipcut_written(build(file, file_length, ws, (size_t)(taxa * columns), out, OUT_LENGTH));
 }
 
 // How many numbers the workspace must have: with one fewer the refusal is 9, with so many it is 10, since no output is lent.
-static inline size_t workspace_needed(__typeof__(probe_build) *probe) {
+static inline size_t workspace_needed(Operation *build) {
     size_t least = 0, enough = N * M;
     while (least < enough) {
-        uint64_t result[5];
         size_t middle = (least + enough) / 2;
-        probe(file, file_length, ws, middle, file, 0, result, 5);
-        if (result[0] == 9) least = middle + 1; else enough = middle;
+        unsigned refusal = flipcut_number(build(file, file_length, ws, middle, file, 0));
+        if (refusal == 9) least = middle + 1; else enough = middle;
     }
     return enough;
 }
 
-static inline size_t operation(uint8_t *out) { return build_with(probe_build, out); }
+static inline size_t operation(uint8_t *out) { return build_with(flipcut_build, out); }
 
 // One turn of each; false where the answers differ.
 static inline int turn(Build *const builds[2], double times[2]) {
