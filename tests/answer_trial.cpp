@@ -1,5 +1,5 @@
-// Compares reading and writing answers with the independent program: numbers, lists and output, the flip
-// list in both of its forms.
+// Compares flipcut_read and flipcut_write, called as C calls them, with the independent program: numbers, answer, list,
+// output.
 //   answer_trial FOLDER [COUNT]
 #include "gen/answers.h"
 #include "gen/cases.h"
@@ -7,13 +7,19 @@
 #include "gen/matrices.h"
 #include "lent.h"
 #include "oracle/build.h"
-#include "probe.h"
+#include "packed.h"
+#include "specimens.h"
 #include "tally.h"
 #include "trial.h"
 
-// By its fields: what lies between them is nobody's.
-static bool operator==(const probe_flip& a, const probe_flip& b) {
+// By their fields: what lies between them is nobody's.
+static bool operator==(const flipcut_flip& a, const flipcut_flip& b) {
     return a.column == b.column && a.raised == b.raised && a.lowered == b.lowered;
+}
+static bool operator==(const flipcut_answer& a, const flipcut_answer& b) {
+    return a.n == b.n && a.m == b.m && a.groups == b.groups && a.flips == b.flips && a.total == b.total &&
+           std::equal(std::begin(a.taxa), std::end(a.taxa), std::begin(b.taxa)) &&
+           std::equal(std::begin(a.costs), std::end(a.costs), std::begin(b.costs));
 }
 
 namespace {
@@ -22,141 +28,58 @@ using gen::ReadCase;
 using gen::WriteCase;
 using oracle::AnswerValue;
 using oracle::Flip;
-using Numbers = std::vector<std::uint64_t>;
 
-// As probe.h lays a value out.
-Numbers flat(const AnswerValue& value) {
-    Numbers numbers{value.n, value.m, value.group_count, value.flip_count, value.total};
-    for (const oracle::Group& group : value.groups) numbers.push_back(group.taxa);
-    for (const oracle::Group& group : value.groups) numbers.push_back(group.cost);
-    return numbers;
+// As the header has it; by name, so that the order of its fields is tried too.
+flipcut_answer c_answer(const AnswerValue& value) {
+    flipcut_answer answer;
+    answer.n = value.n;
+    answer.m = value.m;
+    answer.groups = value.group_count;
+    answer.flips = value.flip_count;
+    answer.total = value.total;
+    for (std::size_t k = 0; k < FLIPCUT_MOST_GROUPS; ++k) {
+        answer.taxa[k] = value.groups[k].taxa;
+        answer.costs[k] = value.groups[k].cost;
+    }
+    return answer;
 }
 
-// As probe.h takes a value for writing.
-struct Value {
-    explicit Value(const AnswerValue& value)
-        : head{value.n, value.m, value.group_count, value.flip_count}, total(value.total) {
-        for (std::size_t k = 0; k < 63; ++k) taxa[k] = value.groups[k].taxa, costs[k] = value.groups[k].cost;
+std::vector<flipcut_flip> c_list(const std::vector<Flip>& flips) {
+    std::vector<flipcut_flip> list(flips.size());
+    for (std::size_t k = 0; k < flips.size(); ++k) {
+        list[k].column = flips[k].column;
+        list[k].raised = flips[k].raised;
+        list[k].lowered = flips[k].lowered;
     }
-    std::array<std::uint16_t, 4> head;
-    std::uint32_t total;
-    std::array<std::uint64_t, 63> taxa;
-    std::array<std::uint32_t, 63> costs;
-};
-
-// One field of every flip.
-template <class Field>
-Numbers each(const std::vector<Flip>& flips, Field field) {
-    Numbers numbers;
-    for (const Flip& flip : flips) numbers.push_back(flip.*field);
-    return numbers;
+    return list;
 }
 
-// The flip list in three lists: lent to a reading, and given to a writing.
-class Lists {
-public:
-    Lists(gen::Random& random, std::size_t length)
-        : columns_(random, length), raised_(random, length), lowered_(random, length) {}
-
-    bool read(const oracle::Bytes& file, Lent<std::uint64_t>& result) {
-        return probe_read(start_of(file), file.size(), columns_.data(), columns_.size(), raised_.data(), raised_.size(),
-                          lowered_.data(), lowered_.size(), result.data(), result.size());
-    }
-    bool holds(const std::vector<Flip>& flips) const {
-        return columns_.holds(each(flips, &Flip::column)) && raised_.holds(each(flips, &Flip::raised)) &&
-               lowered_.holds(each(flips, &Flip::lowered));
-    }
-
-    static std::vector<Flip> fitted(const std::vector<Flip>& flips) { return flips; }
-    static bool write(const Value& value, const std::vector<Flip>& flips, Lent<std::uint8_t>& out,
-                      Lent<std::uint64_t>& result) {
-        const Numbers columns = each(flips, &Flip::column), raised = each(flips, &Flip::raised),
-                      lowered = each(flips, &Flip::lowered);
-        return probe_write(value.head.data(), 4, value.total, value.taxa.data(), 63, value.costs.data(), 63,
-                           start_of(columns), columns.size(), start_of(raised), raised.size(), start_of(lowered),
-                           lowered.size(), out.data(), out.size(), result.data(), result.size());
-    }
-
-private:
-    Lent<std::uint64_t> columns_, raised_, lowered_;
-};
-
-// The flip list in one list of entries.
-class Entries {
-public:
-    Entries(gen::Random& random, std::size_t length)
-        : list_(length, [&random] { return entry({random.bits(), random.bits(), random.bits()}); }) {}
-
-    bool read(const oracle::Bytes& file, Lent<std::uint64_t>& result) {
-        return probe_read_entries(start_of(file), file.size(), list_.data(), list_.size(), result.data(), result.size());
-    }
-    bool holds(const std::vector<Flip>& flips) const { return list_.holds(entries(flips)); }
-
-    // An entry's column has the width that it has in a file.
-    static std::vector<Flip> fitted(std::vector<Flip> flips) {
-        for (Flip& flip : flips) flip.column = entry(flip).column;
-        return flips;
-    }
-    static bool write(const Value& value, const std::vector<Flip>& flips, Lent<std::uint8_t>& out,
-                      Lent<std::uint64_t>& result) {
-        const std::vector<probe_flip> list = entries(flips);
-        return probe_write_entries(value.head.data(), 4, value.total, value.taxa.data(), 63, value.costs.data(), 63,
-                                   start_of(list), list.size(), out.data(), out.size(), result.data(), result.size());
-    }
-
-private:
-    // By name, so that the order of probe.h's fields is compared too.
-    static probe_flip entry(const Flip& flip) {
-        probe_flip made;
-        made.column = static_cast<std::uint16_t>(flip.column);
-        made.raised = flip.raised;
-        made.lowered = flip.lowered;
-        return made;
-    }
-    static std::vector<probe_flip> entries(const std::vector<Flip>& flips) {
-        std::vector<probe_flip> list;
-        for (const Flip& flip : flips) list.push_back(entry(flip));
-        return list;
-    }
-    Lent<probe_flip> list_;
-};
-
-// The counts of one operation in both forms.
-struct Tallies {
-    Tallies(const std::string& operation, const std::string& folder)
-        : lists(operation, folder), entries(operation + " entries", folder) {}
-    void finish(std::initializer_list<unsigned> numbers) const {
-        lists.finish(numbers);
-        entries.finish(numbers);
-    }
-    Tally lists, entries;
-};
-
-template <class Form>
-void compare_read_as(Tally& tally, gen::Random& random, const ReadCase& given) {
+void compare_read(Tally& tally, gen::Random& random, const ReadCase& given, const Call& call = usual_call) {
     const oracle::ReadOutcome expected = oracle::read(given.file, given.list);
-    Form list(random, given.list);
-    Numbers numbers{expected.refusal.number, expected.refusal.place};
-    for (std::uint64_t number : flat(expected.answer.value)) numbers.push_back(number);
-    Lent<std::uint64_t> result(random, numbers.size());
-    const bool answered = list.read(given.file, result);
+    Lent<flipcut_answer> answer(random, 1);
+    Lent<flipcut_flip> list(random, given.list);
+    const auto file = passed(given.file, call);
+    const auto entries = list.passed(call);
+    const std::uint64_t packed =
+        flipcut_read(file.start, file.length, answer.wanted(call), entries.start, entries.length);
     const std::string which = " for a list of " + std::to_string(given.list);
-    if (!answered || !result.holds(numbers)) tally.differ("the numbers of the reading" + which, given.file);
-    if (!list.holds(expected.answer.flips)) tally.differ("the flip list" + which, given.file);
+    compare_packed(tally, packed, expected.refusal, 0, which, given.file);
+    std::vector<flipcut_answer> put;
+    if (call.wanted && !expected.refusal.refused()) put.push_back(c_answer(expected.answer.value));
+    if (!answer.holds(put)) tally.differ("the answer" + which, given.file);
+    if (!list.holds(c_list(expected.answer.flips))) tally.differ("the flip list" + which, given.file);
     tally.agreed(expected.refusal.number);
-}
-
-// One case in both forms. The second draws its noise from a copy, so that a form more moves no later case.
-void compare_read(Tallies& tallies, gen::Random& random, const ReadCase& given) {
-    gen::Random noise = random;
-    compare_read_as<Lists>(tallies.lists, random, given);
-    compare_read_as<Entries>(tallies.entries, noise, given);
 }
 
 // What reproduces a difference in writing: all that was given, as text.
 oracle::Bytes described(const WriteCase& given) {
-    std::string text = "room " + std::to_string(given.room) + "\nvalue";
-    for (std::uint64_t number : flat(given.value)) text += " " + std::to_string(number);
+    const AnswerValue& value = given.value;
+    std::string text = "room " + std::to_string(given.room) + "\nhead";
+    for (std::uint32_t number : {std::uint32_t{value.n}, std::uint32_t{value.m}, std::uint32_t{value.group_count},
+                                 std::uint32_t{value.flip_count}, value.total})
+        text += " " + std::to_string(number);
+    for (const oracle::Group& group : value.groups)
+        text += "\ngroup " + std::to_string(group.taxa) + " " + std::to_string(group.cost);
     for (const Flip& flip : given.list)
         text += "\nentry " + std::to_string(flip.column) + " " + std::to_string(flip.raised) + " " +
                 std::to_string(flip.lowered);
@@ -164,58 +87,86 @@ oracle::Bytes described(const WriteCase& given) {
     return oracle::Bytes(text.begin(), text.end());
 }
 
-template <class Form>
-void compare_write_as(Tally& tally, gen::Random& random, WriteCase given) {
-    given.list = Form::fitted(given.list);
+// A null answer is one of zeros.
+void compare_write(Tally& tally, gen::Random& random, WriteCase given, const Call& call = usual_call) {
+    if (!call.wanted) given.value = {};
     const oracle::WriteOutcome expected = oracle::write(given.value, given.list, given.room);
+    const std::uint64_t written = expected.file.size();
+    const flipcut_answer answer = c_answer(given.value);
+    const std::vector<flipcut_flip> entries = c_list(given.list);
     Lent<std::uint8_t> out(random, given.room);
-    Lent<std::uint64_t> result(random, 5);
-    const bool answered = Form::write(Value(given.value), given.list, out, result);
-    if (!answered || !result.holds({expected.refusal.number, expected.refusal.place, expected.file.size(), 0, 0}))
-        tally.differ("the numbers of the writing", described(given));
+    const auto list = passed(entries, call);
+    const auto bytes = out.passed(call);
+    const std::uint64_t packed =
+        flipcut_write(call.wanted ? &answer : nullptr, list.start, list.length, bytes.start, bytes.length);
+    compare_packed(tally, packed, expected.refusal, written << 32, "", described(given));
+    if (flipcut_written(packed) != written) tally.differ("the length of what is written", described(given));
     if (!out.holds(expected.file)) tally.differ("the output", described(given));
     tally.agreed(expected.refusal.number);
 }
 
-void compare_write(Tallies& tallies, gen::Random& random, const WriteCase& given) {
-    gen::Random noise = random;
-    compare_write_as<Lists>(tallies.lists, random, given);
-    compare_write_as<Entries>(tallies.entries, noise, given);
-}
-
 // Answers of random builds: whole, cut at every byte, each byte changed, the total off by one and the
 // costs by 2 to the 32.
-void built_answers(Tallies& tallies, gen::Random& random) {
+void built_answers(Tally& tally, gen::Random& random) {
     for (unsigned n : {1u, 2u, 5u, 9u, 64u}) {
         const unsigned m = n < 10 ? 4 : 2;
         const oracle::Answer answer =
             oracle::answer_of(gen::random_matrix(random, n, m, gen::Style{gen::Shape::free, gen::Weights::any, 100, n > 2}));
         const oracle::Bytes file = oracle::answer_file(answer);
         const std::size_t list = answer.flips.size();
-        compare_read(tallies, random, {file, list});
-        for (const oracle::Bytes& other : gen::prefixes(file)) compare_read(tallies, random, {other, list});
-        for (const oracle::Bytes& other : gen::byte_changes(file)) compare_read(tallies, random, {other, list + 3});
+        compare_read(tally, random, {file, list});
+        for (const oracle::Bytes& other : gen::prefixes(file)) compare_read(tally, random, {other, list});
+        for (const oracle::Bytes& other : gen::byte_changes(file)) compare_read(tally, random, {other, list + 3});
         for (std::uint32_t off : {1u, 0xffffffffu}) {
             oracle::Answer other = answer;
             other.value.total += off;
-            compare_read(tallies, random, {oracle::answer_file(other), list});
+            compare_read(tally, random, {oracle::answer_file(other), list});
         }
         oracle::Answer wrapped = answer;
         gen::wrap_costs(wrapped.value);
-        compare_read(tallies, random, {oracle::answer_file(wrapped), list});
+        compare_read(tally, random, {oracle::answer_file(wrapped), list});
+    }
+}
+
+// Those of specimens 1, which has two flips, and 5, which has none.
+struct SpecimenAnswers {
+    oracle::Answer flipped = oracle::answer_of(oracle::read_matrix(specimens()[0].file));
+    oracle::Answer whole = oracle::answer_of(oracle::read_matrix(specimens()[4].file));
+};
+
+// An empty file, and an empty list that is too short and that is not; also an answer that is not wanted.
+void unusual_reads(Tally& tally, gen::Random& random) {
+    const SpecimenAnswers answers;
+    for (const Call& call : unusual_calls) {
+        compare_read(tally, random, {{}, 2}, call);
+        for (std::size_t list : {0u, 2u})
+            compare_read(tally, random, {oracle::answer_file(answers.flipped), list}, call);
+        compare_read(tally, random, {oracle::answer_file(answers.whole), 0}, call);
+    }
+}
+
+// An empty list that is too short and that is not, and no output; also no answer.
+void unusual_writes(Tally& tally, gen::Random& random) {
+    const SpecimenAnswers answers;
+    for (const Call& call : unusual_calls) {
+        compare_write(tally, random, {answers.flipped.value, {}, FLIPCUT_MOST_ANSWER}, call);
+        compare_write(tally, random, {answers.whole.value, {}, FLIPCUT_MOST_ANSWER}, call);
+        compare_write(tally, random, {answers.flipped.value, answers.flipped.flips, 0}, call);
     }
 }
 
 }  // namespace
 
 int main(int argc, char** argv) {
-    const TrialWords words = trial_words(argc, argv, 10000);
+    const TrialWords words = trial_words(argc, argv, 20000);
     gen::Random random(6);
-    Tallies read("read", words.folder);
-    built_answers(read, random);
+    Tally read("read", words.folder);
+    for (int k = 0; k < 3; ++k) built_answers(read, random);
+    unusual_reads(read, random);
     for (unsigned long k = 0; k < words.count; ++k) compare_read(read, random, gen::read_case(random));
     read.finish({0, 1, 2, 3, 4, 6, 8, 10, 12, 13, 14});
-    Tallies write("write", words.folder);
+    Tally write("write", words.folder);
+    unusual_writes(write, random);
     for (unsigned long k = 0; k < words.count; ++k) compare_write(write, random, gen::write_case(random));
     write.finish({0, 3, 4, 6, 10, 12, 13, 14});
     return 0;

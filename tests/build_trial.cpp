@@ -1,11 +1,11 @@
-// Compares the build operation with the independent program: numbers, output and workspace.
+// Compares flipcut_build, called as C calls it, with the independent program: numbers, output and workspace.
 //   build_trial FOLDER [COUNT]
 #include "gen/cases.h"
 #include "gen/damage.h"
 #include "gen/matrices.h"
 #include "lent.h"
 #include "oracle/build.h"
-#include "probe.h"
+#include "packed.h"
 #include "specimens.h"
 #include "tally.h"
 #include "trial.h"
@@ -15,21 +15,25 @@ namespace {
 using gen::BuildCase;
 using oracle::Bytes;
 
-void compare(Tally& tally, gen::Random& random, const BuildCase& given) {
+void compare(Tally& tally, gen::Random& random, const BuildCase& given, const Call& call = usual_call) {
     const oracle::BuildOutcome expected = oracle::build(given.file, given.workspace, given.room);
-    const oracle::Refusal& refusal = expected.refusal;
+    const std::uint64_t written = expected.file.size(), total = expected.total;
     Lent<std::int32_t> workspace(random, given.workspace);
     Lent<std::uint8_t> out(random, given.room);
-    Lent<std::uint64_t> result(random, 5);
-    const bool answered = probe_build(start_of(given.file), given.file.size(), workspace.data(), workspace.size(),
-                                      out.data(), out.size(), result.data(), result.size());
+    const auto file = passed(given.file, call);
+    const auto numbers = workspace.passed(call);
+    const auto bytes = out.passed(call);
+    const std::uint64_t packed =
+        flipcut_build(file.start, file.length, numbers.start, numbers.length, bytes.start, bytes.length);
     const std::string which =
         " for workspace " + std::to_string(given.workspace) + " and room " + std::to_string(given.room);
-    if (!answered || !result.holds({refusal.number, refusal.place, expected.file.size(), expected.total, 0}))
+    compare_packed(tally, packed, expected.refusal, (written << 32) | total, which, given.file);
+    if (flipcut_written(packed) != written || flipcut_total(packed) != total)
         tally.differ("the numbers of the build" + which, given.file);
     if (!out.holds(expected.file)) tally.differ("the output" + which, given.file);
-    if (!workspace.holds(std::vector<std::int32_t>(expected.cleared, 0))) tally.differ("the workspace" + which, given.file);
-    tally.agreed(refusal.number, given.file);
+    if (!workspace.holds(std::vector<std::int32_t>(expected.cleared, 0)))
+        tally.differ("the workspace" + which, given.file);
+    tally.agreed(expected.refusal.number, given.file);
 }
 
 // Buffers just long enough, a workspace that is longer, to the number for every pair and past it, and each of them one too short.
@@ -62,6 +66,29 @@ void extreme_cases(Tally& tally, gen::Random& random) {
     }
 }
 
+// The header's constants are what the largest matrix needs: with multiplicities, and every entry a 1.
+void largest_lengths(const Tally& tally, gen::Random& random) {
+    const unsigned n = FLIPCUT_MOST_TAXA, m = FLIPCUT_MOST_COLUMNS;
+    const oracle::Matrix matrix{n, gen::random_multiplicities(random, n),
+                                std::vector<oracle::Column>(m, {1, oracle::all_taxa(n), 0})};
+    const Bytes file = oracle::matrix_file(matrix);
+    if (oracle::check(file).refusal.refused() || file.size() != FLIPCUT_MOST_MATRIX ||
+        oracle::one_entries(matrix) != FLIPCUT_MOST_WORKSPACE ||
+        oracle::answer_length(FLIPCUT_MOST_GROUPS, m) != FLIPCUT_MOST_ANSWER)
+        tally.differ("the header's constants", file);
+}
+
+// An empty file, an empty workspace that is too short and that is not, no output.
+void unusual_cases(Tally& tally, gen::Random& random) {
+    const Bytes first = specimens()[0].file;
+    for (const Call& call : unusual_calls) {
+        compare(tally, random, {{}, FLIPCUT_MOST_WORKSPACE, FLIPCUT_MOST_ANSWER}, call);
+        compare(tally, random, {first, 0, FLIPCUT_MOST_ANSWER}, call);
+        compare(tally, random, {specimens()[no_one].file, 0, FLIPCUT_MOST_ANSWER}, call);
+        compare(tally, random, {first, FLIPCUT_MOST_WORKSPACE, 0}, call);
+    }
+}
+
 }  // namespace
 
 int main(int argc, char** argv) {
@@ -74,6 +101,8 @@ int main(int argc, char** argv) {
     for (unsigned n : {2u, 3u, 4u, 8u, 12u}) edge_cases(tally, random, gen::heaviest_matrix(random, n));
     for (int k = 0; k < 200; ++k) edge_cases(tally, random, gen::random_matrix(random));
     for (unsigned long k = 0; k < words.count; ++k) compare(tally, random, gen::build_case(random));
+    unusual_cases(tally, random);
+    largest_lengths(tally, random);
     tally.finish({0, 1, 2, 3, 4, 5, 6, 7, 8, 9, 10, 21});
     return 0;
 }

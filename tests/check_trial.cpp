@@ -2,11 +2,11 @@
 //   check_trial FOLDER [COUNT]   COUNT random cases of each kind; FOLDER takes what differs
 #include <string>
 
-#include "flipcut.h"
 #include "gen/damage.h"
 #include "gen/matrices.h"
 #include "lent.h"
 #include "oracle/matrix.h"
+#include "packed.h"
 #include "specimens.h"
 #include "tally.h"
 #include "trial.h"
@@ -16,38 +16,30 @@ namespace {
 using oracle::Bytes;
 using oracle::CheckOutcome;
 
-// As C calls it: the empty file by a null pointer.
-std::uint64_t called(const Bytes& file) { return flipcut_check(bytes_of(file), file.size()); }
+std::uint64_t called(const Bytes& given, const Call& call = usual_call) {
+    const auto file = passed(given, call);
+    return flipcut_check(file.start, file.length);
+}
 
 // Through the header's functions.
 CheckOutcome unpacked(std::uint64_t packed) {
     CheckOutcome outcome;
-    outcome.refusal.number = flipcut_number(packed);
-    outcome.refusal.place = flipcut_place(packed);
+    outcome.refusal = refusal_of(packed);
     outcome.n = flipcut_taxa(packed);
     outcome.m = flipcut_columns(packed);
     return outcome;
 }
 
-// The packed number itself: no bit beside the fields is set.
-std::uint64_t packed_number(const CheckOutcome& outcome) {
-    if (outcome.refusal.refused())
-        return (std::uint64_t{1} << 63) | (std::uint64_t{outcome.refusal.place} << 8) | outcome.refusal.number;
-    return (std::uint64_t{outcome.m} << 16) | outcome.n;
-}
-
 std::string text(const CheckOutcome& outcome) {
-    if (outcome.refusal.refused())
-        return "refused " + std::to_string(outcome.refusal.number) + " at " + std::to_string(outcome.refusal.place);
-    return "taken n " + std::to_string(outcome.n) + " m " + std::to_string(outcome.m);
+    return text(outcome.refusal) + " n " + std::to_string(outcome.n) + " m " + std::to_string(outcome.m);
 }
 
-void compare(Tally& tally, const Bytes& file) {
+void compare(Tally& tally, const Bytes& file, const Call& call = usual_call) {
     const CheckOutcome expected = oracle::check(file);
-    const std::uint64_t packed = called(file);
+    const std::uint64_t packed = called(file, call);
     const CheckOutcome found = unpacked(packed);
     if (!(found == expected)) tally.differ("expected " + text(expected) + ", found " + text(found), file);
-    if (packed != packed_number(expected)) tally.differ("bits beside the fields of the packed number", file);
+    compare_packed(tally, packed, expected.refusal, (std::uint64_t{expected.m} << 16) | expected.n, "", file);
     tally.agreed(expected.refusal.number, file);
 }
 
@@ -57,12 +49,6 @@ void specimen_cases(Tally& tally) {
             tally.differ("specimen " + specimen.name + " is not as the documents say", specimen.file);
         compare(tally, specimen.file);
     }
-}
-
-// A null pointer is the empty file, whatever length comes with it.
-void null_pointer(Tally& tally) {
-    for (std::size_t length : {std::size_t{0}, std::size_t{78}})
-        if (flipcut_check(nullptr, length) != packed_number(oracle::check({}))) tally.differ("a null pointer", {});
 }
 
 // A file of each m for the smallest n and the largest two.
@@ -123,7 +109,7 @@ int main(int argc, char** argv) {
     Tally tally("check", words.folder);
     gen::Random random(1);
     specimen_cases(tally);
-    null_pointer(tally);
+    for (const Call& call : unusual_calls) compare(tally, {}, call);
     every_size(tally, random);
     every_prefix_and_byte(tally, random);
     every_multiplicity(tally);

@@ -1,5 +1,7 @@
-// Compares what the program `outline` prints with what the independent program would.
-//   outline_trial FOLDER COUNT PROGRAM [ARGUMENT...]
+// Compares what a program prints with what the independent program would.
+//   outline_trial FOLDER COUNT outline PROGRAM [ARGUMENT...]   the tree of the matrix on standard input
+//   outline_trial FOLDER COUNT sample PROGRAM [ARGUMENT...]    the same, and its score, of a file that is named by one
+//                                                              argument more; status 1 for one that is refused
 #include <cstdio>
 #include <cstdlib>
 #include <fstream>
@@ -34,31 +36,39 @@ std::string first_difference(const std::string& expected, const std::string& fou
 
 class OutlineTrial {
 public:
-    OutlineTrial(const std::string& folder, std::vector<std::string> command)
-        : tally_("outline", folder), input_(folder + "/outline.matrix"), command_(std::move(command)) {}
-
-    void expect(const Bytes& file, const std::string& text) {
-        std::ofstream(input_, std::ios::binary).write(reinterpret_cast<const char*>(file.data()),
-                                                      static_cast<std::streamsize>(file.size()));
-        const Printed found = run_program(command_, input_);
-        if (!found.ended_well) tally_.differ("the program failed", file);
-        if (found.text != text) tally_.differ(first_difference(text, found.text), file);
-        tally_.agreed(oracle::check(file).refusal.number, file);
+    OutlineTrial(const std::string& folder, const std::string& name, std::vector<std::string> command)
+        : tally_(name, folder),
+          sample_(name == "sample"),
+          input_(folder + "/given.matrix"),
+          command_(std::move(command)) {
+        if (sample_) command_.push_back(input_);
     }
 
-    void compare(const Bytes& file) { expect(file, oracle::outline(file)); }
+    // `tree` is how the text starts, where the documents give it.
+    void compare(const Bytes& file, const std::string& tree = "") {
+        std::ofstream(input_, std::ios::binary).write(reinterpret_cast<const char*>(file.data()),
+                                                      static_cast<std::streamsize>(file.size()));
+        const std::string text = oracle::outline(file, sample_).replace(0, tree.size(), tree);
+        const oracle::Refusal refusal = oracle::check(file).refusal;
+        const Printed found = run_program(command_, input_);
+        if (found.status != (sample_ && refusal.refused() ? 1 : 0))
+            tally_.differ("the program ended with status " + std::to_string(found.status), file);
+        if (found.text != text) tally_.differ(first_difference(text, found.text), file);
+        tally_.agreed(refusal.number, file);
+    }
 
     void finish() const { tally_.finish({0, 1, 2, 3, 4, 5, 6, 7, 8, 21}); }
 
 private:
     Tally tally_;
+    bool sample_;
     std::string input_;
     std::vector<std::string> command_;
 };
 
 void specimen_cases(OutlineTrial& trial) {
     for (const Specimen& specimen : specimens()) {
-        if (!specimen.printed.empty()) trial.expect(specimen.file, specimen.printed);
+        if (!specimen.printed.empty()) trial.compare(specimen.file, specimen.printed);
         trial.compare(specimen.file);
     }
 }
@@ -123,11 +133,11 @@ void random_cases(OutlineTrial& trial, gen::Random& random, unsigned long count)
 }  // namespace
 
 int main(int argc, char** argv) {
-    if (argc < 4) {
-        std::fprintf(stderr, "usage: outline_trial FOLDER COUNT PROGRAM [ARGUMENT...]\n");
+    if (argc < 5) {
+        std::fprintf(stderr, "usage: outline_trial FOLDER COUNT outline|sample PROGRAM [ARGUMENT...]\n");
         return 2;
     }
-    OutlineTrial trial(argv[1], std::vector<std::string>(argv + 3, argv + argc));
+    OutlineTrial trial(argv[1], argv[3], std::vector<std::string>(argv + 4, argv + argc));
     gen::Random random(3);
     specimen_cases(trial);
     for (const Bytes& file : gen::prefixes(specimens()[0].file)) trial.compare(file);

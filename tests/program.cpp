@@ -39,6 +39,6 @@ Printed run_program(const std::vector<std::string>& command, const std::string& 
     close(ends[0]);
     int status = 0;
     waitpid(child, &status, 0);
-    printed.ended_well = WIFEXITED(status) && WEXITSTATUS(status) == 0;
+    if (WIFEXITED(status)) printed.status = WEXITSTATUS(status);
     return printed;
 }

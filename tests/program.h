@@ -6,7 +6,7 @@
 
 struct Printed {
     std::string text;
-    bool ended_well = false;  // the program ended by itself, with status 0
+    int status = -1;  // -1 where the program did not end by itself
 };
 
 // `command` is the program and its arguments; the file becomes its standard input.

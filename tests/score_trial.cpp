@@ -1,6 +1,5 @@
 // Compares flipcut_score, called as C calls it, with the independent score, and small pairs with every choice of flips.
 //   score_trial FOLDER [COUNT]
-#include "flipcut.h"
 #include "gen/cases.h"
 #include "gen/damage.h"
 #include "gen/matrices.h"
@@ -8,6 +7,7 @@
 #include "oracle/build.h"
 #include "oracle/choices.h"
 #include "oracle/score.h"
+#include "packed.h"
 #include "specimens.h"
 #include "tally.h"
 #include "trial.h"
@@ -18,31 +18,23 @@ using gen::ScoreCase;
 using oracle::Bytes;
 using oracle::ScoreOutcome;
 
-std::uint64_t called(const ScoreCase& given) {
-    return flipcut_score(bytes_of(given.matrix), given.matrix.size(), bytes_of(given.answer), given.answer.size());
+std::uint64_t called(const ScoreCase& given, const Call& call = usual_call) {
+    const auto matrix = passed(given.matrix, call), answer = passed(given.answer, call);
+    return flipcut_score(matrix.start, matrix.length, answer.start, answer.length);
 }
 
 // Through the header's functions.
 ScoreOutcome unpacked(std::uint64_t packed) {
     ScoreOutcome outcome;
-    outcome.refusal.number = flipcut_number(packed);
-    outcome.refusal.place = flipcut_place(packed);
+    outcome.refusal = refusal_of(packed);
     outcome.raises = flipcut_raises(packed);
     outcome.lowers = flipcut_lowers(packed);
     return outcome;
 }
 
-// The packed number itself: no bit beside the fields is set.
-std::uint64_t packed_number(const ScoreOutcome& outcome) {
-    if (outcome.refusal.refused())
-        return (std::uint64_t{1} << 63) | (std::uint64_t{outcome.refusal.place} << 8) | outcome.refusal.number;
-    return (outcome.raises << 31) | outcome.lowers;
-}
-
 std::string text(const ScoreOutcome& outcome) {
-    if (outcome.refusal.refused())
-        return "refused " + std::to_string(outcome.refusal.number) + " at " + std::to_string(outcome.refusal.place);
-    return "raises " + std::to_string(outcome.raises) + " lowers " + std::to_string(outcome.lowers);
+    return text(outcome.refusal) + " raises " + std::to_string(outcome.raises) + " lowers " +
+           std::to_string(outcome.lowers);
 }
 
 // The matrix and the answer, one after the other; the matrix's own records say where it ends.
@@ -83,14 +75,14 @@ void compare_columns(Columns& columns, Tally& tally, const ScoreCase& given) {
 }
 
 // Whether the pair is taken.
-bool compare(Tally& tally, const ScoreCase& given) {
+bool compare(Tally& tally, const ScoreCase& given, const Call& call = usual_call) {
     const ScoreOutcome expected = oracle::score(given.matrix, given.answer);
-    const std::uint64_t packed = called(given);
+    const std::uint64_t packed = called(given, call);
     const ScoreOutcome found = unpacked(packed);
     const std::string which = " (the file has the matrix, " + std::to_string(given.matrix.size()) +
                               " bytes, and then the answer)";
     if (!(found == expected)) tally.differ("expected " + text(expected) + ", found " + text(found) + which, both(given));
-    if (packed != packed_number(expected)) tally.differ("bits beside the fields" + which, both(given));
+    compare_packed(tally, packed, expected.refusal, (expected.raises << 31) | expected.lowers, which, both(given));
     tally.agreed(expected.refusal.number, given.matrix);
     return !expected.refusal.refused();
 }
@@ -154,9 +146,10 @@ void specimen_cases(Tally& tally) {
     for (const Bytes& other : gen::prefixes(one.answer)) compare(tally, {one.matrix, other});
     compare(tally, {one.matrix, seven.answer});
     compare(tally, {{}, {}});
-    // A null pointer is the empty file, whatever length comes with it.
-    const std::uint64_t no_answer = flipcut_score(bytes_of(one.matrix), one.matrix.size(), nullptr, one.answer.size());
-    if (no_answer != packed_number(oracle::score(one.matrix, {}))) tally.differ("a null pointer for the answer", one.matrix);
+    for (const Call& call : unusual_calls) {
+        compare(tally, {one.matrix, {}}, call);
+        compare(tally, {{}, one.answer}, call);
+    }
 }
 
 // The largest scores: against the tree that has no group but the whole.

@@ -1,10 +1,10 @@
-// Compares the split operation with the independent program: numbers and workspace.
+// Compares flipcut_split, called as C calls it, with the independent program: numbers, result and workspace.
 //   split_trial FOLDER [COUNT]
 #include "gen/cases.h"
 #include "gen/matrices.h"
 #include "lent.h"
 #include "oracle/split.h"
-#include "probe.h"
+#include "packed.h"
 #include "specimens.h"
 #include "tally.h"
 #include "trial.h"
@@ -13,20 +13,32 @@ namespace {
 
 using gen::SplitCase;
 
-void compare(Tally& tally, gen::Random& random, const SplitCase& given) {
+// By name, so that the order of the header's places is tried too.
+std::vector<std::uint64_t> result_of(const oracle::Division& division) {
+    std::vector<std::uint64_t> result(FLIPCUT_SPLIT_RESULTS);
+    result[FLIPCUT_COST] = division.cost;
+    result[FLIPCUT_SIDE] = division.side;
+    result[FLIPCUT_TAXON] = division.t;
+    return result;
+}
+
+void compare(Tally& tally, gen::Random& random, const SplitCase& given, const Call& call = usual_call) {
     const oracle::SplitOutcome expected = oracle::split(given.file, given.group, given.workspace);
-    const oracle::Refusal& refusal = expected.refusal;
     Lent<std::int32_t> workspace(random, given.workspace);
-    Lent<std::uint64_t> result(random, 5);
-    const bool answered = probe_split(start_of(given.file), given.file.size(), given.group, workspace.data(),
-                                      workspace.size(), result.data(), result.size());
+    Lent<std::uint64_t> result(random, FLIPCUT_SPLIT_RESULTS);
+    const auto file = passed(given.file, call);
+    const auto numbers = workspace.passed(call);
+    const std::uint64_t packed =
+        flipcut_split(file.start, file.length, given.group, numbers.start, numbers.length, result.wanted(call));
     const std::string which = " for group " + std::to_string(given.group) + " and workspace " +
                               std::to_string(given.workspace);
-    const oracle::Division& division = expected.division;
-    if (!answered || !result.holds({refusal.number, refusal.place, division.cost, division.side, division.t}))
-        tally.differ("the numbers of the split" + which, given.file);
-    if (!workspace.holds(std::vector<std::int32_t>(expected.cleared, 0))) tally.differ("the workspace" + which, given.file);
-    tally.agreed(refusal.number, given.file);
+    compare_packed(tally, packed, expected.refusal, 0, which, given.file);
+    const bool divided = call.wanted && !expected.refusal.refused();
+    if (!result.holds(divided ? result_of(expected.division) : std::vector<std::uint64_t>{}))
+        tally.differ("the result" + which, given.file);
+    if (!workspace.holds(std::vector<std::int32_t>(expected.cleared, 0)))
+        tally.differ("the workspace" + which, given.file);
+    tally.agreed(expected.refusal.number, given.file);
 }
 
 // The workspace just long enough, one too short, empty, and longer, to the number for every pair and past it.
@@ -61,6 +73,15 @@ void extreme_cases(Tally& tally, gen::Random& random) {
     }
 }
 
+// An empty file, and an empty workspace that is too short and that is not; also a result that is not wanted.
+void unusual_cases(Tally& tally, gen::Random& random) {
+    for (const Call& call : unusual_calls) {
+        compare(tally, random, {{}, 3, 6}, call);
+        for (std::size_t workspace : {0u, 6u}) compare(tally, random, {specimens()[0].file, 15, workspace}, call);
+        compare(tally, random, {specimens()[no_one].file, 7, 0}, call);
+    }
+}
+
 // The largest costs, where numbers of 32 bits are the nearest to running over.
 void heaviest_cases(Tally& tally, gen::Random& random) {
     for (unsigned n : {2u, 3u, 4u, 8u, 12u}) edge_cases(tally, random, gen::heaviest_matrix(random, n), oracle::all_taxa(n));
@@ -76,6 +97,7 @@ int main(int argc, char** argv) {
     extreme_cases(tally, random);
     heaviest_cases(tally, random);
     for (unsigned long k = 0; k < words.count; ++k) compare(tally, random, gen::split_case(random));
+    unusual_cases(tally, random);
     tally.finish({0, 1, 2, 3, 4, 5, 6, 7, 8, 9, 11, 21});
     return 0;
 }

@@ -46,7 +46,7 @@ void put_groups(Random& random, AnswerValue& value) {
 
 void put_flips(Random& random, Answer& answer) {
     const unsigned percent = static_cast<unsigned>(random.below(101));
-    for (unsigned column = 0; column < answer.value.m; ++column) {
+    for (std::uint16_t column = 0; column < answer.value.m; ++column) {
         const TaxonSet flipped = random.bits() & all_taxa(answer.value.n);
         const TaxonSet raised = flipped & random.bits();
         if (flipped != 0 && random.chance(percent)) answer.flips.push_back(Flip{column, raised, flipped & ~raised});
@@ -77,9 +77,9 @@ void spoil_flip(Random& random, Answer& answer) {
         case 1: flip.lowered |= beyond(random, answer.value.n); break;
         case 2: flip.raised |= taxon, flip.lowered |= taxon; break;
         case 3: flip.raised = flip.lowered = 0; break;
-        case 4: flip.column = answer.value.m + random.below(3); break;
+        case 4: flip.column = static_cast<std::uint16_t>(answer.value.m + random.below(3)); break;
         case 5: flip.column = other.column; break;
-        case 6: flip.column = random.below(answer.value.m); break;
+        case 6: flip.column = static_cast<std::uint16_t>(random.below(answer.value.m)); break;
         default: std::swap(flip, other); break;
     }
 }

@@ -82,10 +82,14 @@ WriteCase write_case(Random& random) {
     if (random.chance(20)) spoil_head(random, answer.value);
     made.value = answer.value;
     made.list = answer.flips;
-    // An entry is wider than a file's 2 bytes for a column.
-    if (!made.list.empty() && random.chance(3)) made.list[random.below(made.list.size())].column += 65536;
+    // One bit of a column, also of those that a byte has no room for.
+    if (!made.list.empty() && random.chance(3)) {
+        oracle::Flip& flip = made.list[random.below(made.list.size())];
+        flip.column ^= static_cast<std::uint16_t>(1u << random.below(16));
+    }
     while (made.list.size() > list) made.list.pop_back();
-    while (made.list.size() < list) made.list.push_back(oracle::Flip{random.bits(), random.bits(), random.bits()});
+    while (made.list.size() < list)
+        made.list.push_back(oracle::Flip{static_cast<std::uint16_t>(random.bits()), random.bits(), random.bits()});
     return made;
 }
 

@@ -28,7 +28,7 @@ Group read_group(RecordReader& reader) {
 Flip read_flip(RecordReader& reader) {
     reader.open(Kind::flips);
     Flip flip;
-    flip.column = reader.take(2);
+    flip.column = static_cast<std::uint16_t>(reader.take(2));
     flip.raised = reader.take(8);
     flip.lowered = reader.take(8);
     return flip;

@@ -8,7 +8,7 @@
 namespace oracle {
 
 struct Flip {
-    std::uint64_t column = 0;  // wider than in a file, so that any value can be given for writing
+    std::uint16_t column = 0;
     TaxonSet raised = 0;
     TaxonSet lowered = 0;
 

@@ -3,6 +3,7 @@
 #include <sstream>
 
 #include "build.h"
+#include "score.h"
 
 namespace oracle {
 
@@ -20,13 +21,19 @@ std::string printed(const Answer& answer) {
     return out.str();
 }
 
+std::string printed(const ScoreOutcome& score) {
+    return "raises " + std::to_string(score.raises) + " lowers " + std::to_string(score.lowers) + " score " +
+           std::to_string(score.raises + score.lowers) + "\n";
+}
+
 }  // namespace
 
-std::string outline(const Bytes& file) {
+std::string outline(const Bytes& file, bool scored) {
     try {
-        return printed(answer_of(read_matrix(file)));
+        const Answer answer = answer_of(read_matrix(file));
+        return printed(answer) + (scored ? printed(score(file, answer_file(answer))) : "");
     } catch (const Refusal& refusal) {
-        return "refused " + std::to_string(refusal.number) + " at " + std::to_string(refusal.place) + "\n";
+        return text(refusal) + "\n";
     }
 }
 

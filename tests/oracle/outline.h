@@ -1,4 +1,4 @@
-// What the program `outline` prints for a matrix file.
+// What the programs that make a tree print for a matrix file.
 #pragma once
 
 #include <string>
@@ -7,6 +7,7 @@
 
 namespace oracle {
 
-std::string outline(const Bytes& file);
+// What `outline` prints; where it is scored, what samples/tree.c does, which has a line for the tree's score after it.
+std::string outline(const Bytes& file, bool scored = false);
 
 }  // namespace oracle

@@ -2,6 +2,7 @@
 #pragma once
 
 #include <cstddef>
+#include <string>
 
 namespace oracle {
 
@@ -13,6 +14,12 @@ struct Refusal {
     bool operator==(const Refusal& other) const { return number == other.number && place == other.place; }
     bool operator!=(const Refusal& other) const { return !(*this == other); }
 };
+
+// As the programs print it.
+inline std::string text(const Refusal& refusal) {
+    if (!refusal.refused()) return "taken";
+    return "refused " + std::to_string(refusal.number) + " at " + std::to_string(refusal.place);
+}
 
 // Thrown where an operation refuses, caught where it ends.
 [[noreturn]] inline void refuse(unsigned number, std::size_t place) { throw Refusal{number, place}; }

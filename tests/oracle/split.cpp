@@ -50,7 +50,7 @@ GroupSplit split_group(Matrix& matrix, TaxonSet group) {
         Flip flip = flip_of(matrix, column, group, division.side);
         apply(flip, column);
         if (flip.raised == 0) join(split.parts, column.ones & group);  // a raised column is dropped
-        flip.column = c;
+        flip.column = static_cast<std::uint16_t>(c);
         if ((flip.raised | flip.lowered) != 0) split.flips.push_back(flip);
     }
     std::sort(split.parts.begin(), split.parts.end(),
