@@ -1,5 +1,5 @@
 -- An answer whose numbers fit the bits that they are packed into.
-use Prim.Native.Nat.{ℕ, _^_, _<_}
+use Prim.Native.Nat.{_^_, _<_}
 use Rattle.record.specs.declared.Refusal.{Refusal}
 use Rattle.matrix.specs.declared.Checked.{Checked}
 use Rattle.matrix.specs.declared.Checked.the-variants.{Taken, Refused}
