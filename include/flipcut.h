@@ -34,11 +34,25 @@
 /* The places of a split's result. */
 enum flipcut_split_result { FLIPCUT_COST, FLIPCUT_SIDE, FLIPCUT_TAXON, FLIPCUT_SPLIT_RESULTS };
 
-/* What an answer holds beside its flips. A set of taxa is 64 bits, taxon i worth 2 to the i. */
+/* The places of a reading's result: n, m, how many groups there are and how many flipped columns, the total; then the
+ * groups from FLIPCUT_TAXA on, and their costs from FLIPCUT_COSTS on, each with 63 places, those past the last 0. A set of
+ * taxa is 64 bits, taxon i worth 2 to the i. */
+enum flipcut_read_result {
+    FLIPCUT_N,
+    FLIPCUT_M,
+    FLIPCUT_GROUPS,
+    FLIPCUT_FLIPS,
+    FLIPCUT_TOTAL,
+    FLIPCUT_TAXA,
+    FLIPCUT_COSTS = FLIPCUT_TAXA + FLIPCUT_MOST_GROUPS,
+    FLIPCUT_READ_RESULTS = FLIPCUT_COSTS + FLIPCUT_MOST_GROUPS
+};
+
+/* What is written beside the flips, in the widths of an answer file. flipcut_answer_of makes it of a reading's result. */
 struct flipcut_answer {
     uint16_t n;      /* taxa */
     uint16_t m;      /* columns */
-    uint16_t groups; /* how many of the 63 places below are used; the others are 0 */
+    uint16_t groups; /* how many of the places below count; no other is read */
     uint16_t flips;  /* how many columns are flipped */
     uint32_t total;  /* the sum of the costs */
     uint64_t taxa[FLIPCUT_MOST_GROUPS];
@@ -72,10 +86,10 @@ uint64_t flipcut_build(const uint8_t *matrix, size_t matrix_len, int32_t *worksp
 uint64_t flipcut_split(const uint8_t *matrix, size_t matrix_len, uint64_t group, int32_t *workspace, size_t workspace_len,
                        uint64_t result[FLIPCUT_SPLIT_RESULTS]);
 
-/* Reads an answer file: its flips to the start of `list`, which is to have an entry for each, the rest to `answer`.
- * Refusals: 1 to 4, 6, 8, 12 to 14, then 10 for the list. */
-uint64_t flipcut_read(const uint8_t *file, size_t len, struct flipcut_answer *answer, struct flipcut_flip *list,
-                      size_t list_len);
+/* Reads an answer file: its flips to the start of `list`, which is to have an entry for each, the rest to `result`.
+ * Refusals: 1 to 4, 6, 8, 12 to 14, then 10 for the list. Success: result, by the places above. */
+uint64_t flipcut_read(const uint8_t *file, size_t len, struct flipcut_flip *list, size_t list_len,
+                      uint64_t result[FLIPCUT_READ_RESULTS]);
 
 /* Writes an answer file to the start of `out`. Refusals: 3, 4, 6, 12 to 14, the place in the file that would be written,
  * then 10 for `out`. Success: flipcut_written. */
@@ -93,8 +107,8 @@ uint64_t flipcut_score(const uint8_t *matrix, size_t matrix_len, const uint8_t *
 #endif
 
 /* The functions of the library take no null pointer, and C passes one for what is empty. So a call of theirs by name goes
- * through a function here, which lends something of its own and says that it is empty. Where `result` or `answer` is null,
- * what would be written there is not wanted; a null answer to write is one of zeros, which is refused. */
+ * through a function here, which lends something of its own and says that it is empty. Where `result` is null, what would be
+ * written there is not wanted; a null answer to write is one of zeros, which is refused. */
 static inline size_t flipcut_length(const void *start, size_t len) {
     return start == NULL ? 0 : len;
 }
@@ -124,12 +138,12 @@ static inline uint64_t flipcut_split_lent(const uint8_t *matrix, size_t matrix_l
                          result == NULL ? unwanted : result);
 }
 
-static inline uint64_t flipcut_read_lent(const uint8_t *file, size_t len, struct flipcut_answer *answer,
-                                         struct flipcut_flip *list, size_t list_len) {
-    struct flipcut_answer unwanted = {0, 0, 0, 0, 0, {0}, {0}};
+static inline uint64_t flipcut_read_lent(const uint8_t *file, size_t len, struct flipcut_flip *list, size_t list_len,
+                                         uint64_t *result) {
+    uint64_t unwanted[FLIPCUT_READ_RESULTS] = {0};
     return flipcut_read((const uint8_t *)flipcut_start(file, len), flipcut_length(file, len),
-                        answer == NULL ? &unwanted : answer, (struct flipcut_flip *)flipcut_start(list, list_len),
-                        flipcut_length(list, list_len));
+                        (struct flipcut_flip *)flipcut_start(list, list_len), flipcut_length(list, list_len),
+                        result == NULL ? unwanted : result);
 }
 
 static inline uint64_t flipcut_write_lent(const struct flipcut_answer *answer, const struct flipcut_flip *list,
@@ -196,6 +210,22 @@ static inline size_t flipcut_written(uint64_t packed) {
 /* flipcut_build: the total, which is the sum of the split costs. */
 static inline uint32_t flipcut_total(uint64_t packed) {
     return (uint32_t)flipcut_result(packed, 0, 32);
+}
+
+/* flipcut_read: its result, to be written. */
+static inline struct flipcut_answer flipcut_answer_of(const uint64_t result[FLIPCUT_READ_RESULTS]) {
+    struct flipcut_answer answer = {(uint16_t)result[FLIPCUT_N],
+                                    (uint16_t)result[FLIPCUT_M],
+                                    (uint16_t)result[FLIPCUT_GROUPS],
+                                    (uint16_t)result[FLIPCUT_FLIPS],
+                                    (uint32_t)result[FLIPCUT_TOTAL],
+                                    {0},
+                                    {0}};
+    for (size_t k = 0; k < FLIPCUT_MOST_GROUPS; ++k) {
+        answer.taxa[k] = result[FLIPCUT_TAXA + k];
+        answer.costs[k] = (uint32_t)result[FLIPCUT_COSTS + k];
+    }
+    return answer;
 }
 
 /* flipcut_score: what is raised from 0 to 1, each times its column's weight and its taxon's multiplicity. */

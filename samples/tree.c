@@ -9,15 +9,16 @@
  * has 83 KiB. */
 static uint8_t matrix[FLIPCUT_MOST_MATRIX + 1], answer[FLIPCUT_MOST_ANSWER];
 static int32_t workspace[FLIPCUT_MOST_WORKSPACE];
-static struct flipcut_answer tree;
+static uint64_t tree[FLIPCUT_READ_RESULTS];
 static struct flipcut_flip flips[FLIPCUT_MOST_COLUMNS];
 
 /* A set of taxa is printed as a hexadecimal number in which taxon i is worth 2 to the i. */
 static void print_tree(void) {
-    printf("taxa %u columns %u total %" PRIu32 "\n", tree.n, tree.m, tree.total);
-    for (unsigned k = 0; k < tree.groups; ++k)
-        printf("group %" PRIx64 " cost %" PRIu32 "\n", tree.taxa[k], tree.costs[k]);
-    for (unsigned k = 0; k < tree.flips; ++k)
+    printf("taxa %" PRIu64 " columns %" PRIu64 " total %" PRIu64 "\n", tree[FLIPCUT_N], tree[FLIPCUT_M],
+           tree[FLIPCUT_TOTAL]);
+    for (size_t k = 0; k < tree[FLIPCUT_GROUPS]; ++k)
+        printf("group %" PRIx64 " cost %" PRIu64 "\n", tree[FLIPCUT_TAXA + k], tree[FLIPCUT_COSTS + k]);
+    for (size_t k = 0; k < tree[FLIPCUT_FLIPS]; ++k)
         printf("flip %u raise %" PRIx64 " lower %" PRIx64 "\n", flips[k].column, flips[k].raised, flips[k].lowered);
 }
 
@@ -27,7 +28,7 @@ static int build_and_score(size_t matrix_len) {
     if (refused(built)) return 1;
     /* An answer file, to be kept or not. One that the build wrote is never refused; one from elsewhere may be. */
     size_t answer_len = flipcut_written(built);
-    if (refused(flipcut_read(answer, answer_len, &tree, flips, FLIPCUT_MOST_COLUMNS))) return 1;
+    if (refused(flipcut_read(answer, answer_len, flips, FLIPCUT_MOST_COLUMNS, tree))) return 1;
     print_tree();
     return tell_score(flipcut_score(matrix, matrix_len, answer, answer_len));
 }

@@ -1,4 +1,4 @@
-// Compares flipcut_read and flipcut_write, called as C calls them, with the independent program: numbers, answer, list,
+// Compares flipcut_read and flipcut_write, called as C calls them, with the independent program: numbers, result, list,
 // output.
 //   answer_trial FOLDER [COUNT]
 #include "gen/answers.h"
@@ -44,6 +44,21 @@ flipcut_answer c_answer(const AnswerValue& value) {
     return answer;
 }
 
+// As a reading puts it; by name, so that the header's places are tried too.
+std::vector<std::uint64_t> result_of(const AnswerValue& value) {
+    std::vector<std::uint64_t> result(FLIPCUT_READ_RESULTS);
+    result[FLIPCUT_N] = value.n;
+    result[FLIPCUT_M] = value.m;
+    result[FLIPCUT_GROUPS] = value.group_count;
+    result[FLIPCUT_FLIPS] = value.flip_count;
+    result[FLIPCUT_TOTAL] = value.total;
+    for (std::size_t k = 0; k < FLIPCUT_MOST_GROUPS; ++k) {
+        result[FLIPCUT_TAXA + k] = value.groups[k].taxa;
+        result[FLIPCUT_COSTS + k] = value.groups[k].cost;
+    }
+    return result;
+}
+
 std::vector<flipcut_flip> c_list(const std::vector<Flip>& flips) {
     std::vector<flipcut_flip> list(flips.size());
     for (std::size_t k = 0; k < flips.size(); ++k) {
@@ -56,17 +71,20 @@ std::vector<flipcut_flip> c_list(const std::vector<Flip>& flips) {
 
 void compare_read(Tally& tally, gen::Random& random, const ReadCase& given, const Call& call = usual_call) {
     const oracle::ReadOutcome expected = oracle::read(given.file, given.list);
-    Lent<flipcut_answer> answer(random, 1);
+    const AnswerValue& value = expected.answer.value;
     Lent<flipcut_flip> list(random, given.list);
+    Lent<std::uint64_t> result(random, FLIPCUT_READ_RESULTS);
     const auto file = passed(given.file, call);
     const auto entries = list.passed(call);
     const std::uint64_t packed =
-        flipcut_read(file.start, file.length, answer.wanted(call), entries.start, entries.length);
+        flipcut_read(file.start, file.length, entries.start, entries.length, result.wanted(call));
     const std::string which = " for a list of " + std::to_string(given.list);
     compare_packed(tally, packed, expected.refusal, 0, which, given.file);
-    std::vector<flipcut_answer> put;
-    if (call.wanted && !expected.refusal.refused()) put.push_back(c_answer(expected.answer.value));
-    if (!answer.holds(put)) tally.differ("the answer" + which, given.file);
+    const bool put = call.wanted && !expected.refusal.refused();
+    if (!result.holds(put ? result_of(value) : std::vector<std::uint64_t>{}))
+        tally.differ("the result" + which, given.file);
+    if (put && !(flipcut_answer_of(result.wanted(call)) == c_answer(value)))
+        tally.differ("the answer of the result" + which, given.file);
     if (!list.holds(c_list(expected.answer.flips))) tally.differ("the flip list" + which, given.file);
     tally.agreed(expected.refusal.number);
 }
@@ -134,7 +152,7 @@ struct SpecimenAnswers {
     oracle::Answer whole = oracle::answer_of(oracle::read_matrix(specimens()[4].file));
 };
 
-// An empty file, and an empty list that is too short and that is not; also an answer that is not wanted.
+// An empty file, and an empty list that is too short and that is not; also a result that is not wanted.
 void unusual_reads(Tally& tally, gen::Random& random) {
     const SpecimenAnswers answers;
     for (const Call& call : unusual_calls) {

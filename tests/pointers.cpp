@@ -42,9 +42,9 @@ std::uint64_t __wrap_flipcut_split(const std::uint8_t* matrix, std::size_t matri
     return __real_flipcut_split(lent(matrix), matrix_len, group, lent(workspace), workspace_len, lent(result));
 }
 
-std::uint64_t __wrap_flipcut_read(const std::uint8_t* file, std::size_t len, flipcut_answer* answer, flipcut_flip* list,
-                                  std::size_t list_len) {
-    return __real_flipcut_read(lent(file), len, lent(answer), lent(list), list_len);
+std::uint64_t __wrap_flipcut_read(const std::uint8_t* file, std::size_t len, flipcut_flip* list, std::size_t list_len,
+                                  std::uint64_t* result) {
+    return __real_flipcut_read(lent(file), len, lent(list), list_len, lent(result));
 }
 
 std::uint64_t __wrap_flipcut_write(const flipcut_answer* answer, const flipcut_flip* list, std::size_t list_len,

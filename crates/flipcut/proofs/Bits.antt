@@ -5,16 +5,16 @@ use Prim.Native.Nat.{ℕ, _+_, _*_, _^_, _<_}
 use native.Mathlib.Omega.{arith}
 use lib.ListN.{length, getD, set}
 use borrow.Author.Tests.{eq-eqb, ne-eqb}
+use Rattle.record.specs.declared.Cursor.{Cursor}
 use Rattle.record.specs.declared.Passed.{Passed}
 use Rattle.record.specs.declared.Passed.the-variants as passed
 use Rattle.record.specs.declared.Refusal.{Refusal}
 use Rattle.matrix.specs.declared.Checked.{Checked}
 use Rattle.matrix.specs.declared.Checked.the-variants as checks
 use Rattle.matrix.specs.Check as check
-use Rattle.answer.specs.declared.Answer.{Answer}
 use Rattle.answer.specs.declared.Written.{Written}
 use Rattle.answer.specs.declared.Written.the-variants as written
-use Rattle.answer.specs.Content.{Content, answerOf}
+use Rattle.answer.specs.Content.{Content, padded, answerOf}
 use Rattle.answer.specs.Reading as reading
 use Rattle.answer.specs.Reading.{empty, answered}
 use Rattle.answer.specs.Writing as writing
@@ -27,9 +27,10 @@ use Rattle.tree.specs.Build as build
 use Rattle.score.specs.declared.Scored.{Scored}
 use Rattle.score.specs.declared.Scored.the-variants as scores
 use Rattle.score.specs.Operation as score
-use Rattle.flipcut.specs.Packed.{packed, packedBuild, packedRead, packedRefusal, packedScore, packedSplit, packedWrite, resultAfter, answerAfter}
-use Rattle.flipcut.specs.Unpacked.{bits, numberIn, placeIn, resultIn, lentResult}
+use Rattle.flipcut.specs.Packed.{packed, packedBuild, packedRead, packedRefusal, packedScore, packedSplit, packedWrite, resultAfter, valueAfter}
+use Rattle.flipcut.specs.Unpacked.{bits, numberIn, placeIn, resultIn, lentResult, valueIn}
 use Rattle.flipcut.specs.Unpacked.{unpacked, unpackedBuild, unpackedRead, unpackedScore, unpackedSplit, unpackedWrite}
+use Rattle.flipcut.proofs.Values.{value-put}
 use Rattle.flipcut.specs.inner.Fitting.{RefusalFits, CheckFits, BuildFits, SplitFits, ReadFits, WriteFits, ScoreFits}
 
 -- A refusal that fits.
@@ -117,13 +118,14 @@ split-returns (splits.Refused why) fits before three =
     λ i. record { number = number why fits i; place = place why fits i; cost = none 0 i; side = none 1 i; t = none 2 i }
 
 -- Of a refused reading the value is that of an empty content.
-pub read-returns : (c : Content) (p : Passed) (before : Answer) → let r = answered c p in
-    ReadFits (r .verdict) → unpackedRead (packedRead (r .verdict)) (answerAfter (r .verdict) (r .answer) before) ≡ reading.returned r
-read-returns c (passed.At here) before fits =
+pub read-returns : (c : Content) (p : Passed) (before : List ℕ) → length before ≡ 131 → let r = answered c p in
+    ((here : Cursor) → passed.At here ≡ p → (length (padded (c .taxa)) ≡ 63) × (length (padded (c .costs)) ≡ 63)) → ReadFits (r .verdict)
+    → unpackedRead (packedRead (r .verdict)) (valueAfter (r .verdict) (r .answer) before) ≡ reading.returned r
+read-returns c (passed.At here) before long full fits =
     let low : _<_ 0 (2 ^ 63) = omega arith in
-    λ i. record { number = no-number 0 low i; place = no-place 0 low i; answer = lent-result 0 low (answerOf empty) (answerOf c) i }
-read-returns c (passed.Refused why) before fits =
-    λ i. record { number = number why fits i; place = place why fits i; answer = none-lent why fits (answerOf empty) before i }
+    λ i. record { number = no-number 0 low i; place = no-place 0 low i; answer = (lent-result 0 low (answerOf empty) _ ∙ value-put (answerOf c) before long (full here refl .0) (full here refl .1)) i }
+read-returns c (passed.Refused why) before long full fits =
+    λ i. record { number = number why fits i; place = place why fits i; answer = none-lent why fits (answerOf empty) (valueIn before) i }
 
 pub write-returns : (a : Written) → WriteFits a → unpackedWrite (packedWrite a) ≡ writing.returned a
 write-returns (written.Length size) fits =

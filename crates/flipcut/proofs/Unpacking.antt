@@ -19,6 +19,7 @@ use Rattle.score.specs.Operation.{scored, scoreNumbers}
 use Rattle.flipcut.specs.Packed.{packed, packedScore, BuildsPacked, SplitsPacked, ReadsPacked, WritesPacked}
 use Rattle.flipcut.specs.Unpacked.{unpacked, unpackedBuild, unpackedRead, unpackedScore, unpackedSplit, unpackedWrite}
 use Rattle.flipcut.proofs.Fitting.{check-fits, build-fits, split-fits, read-fits, write-fits, score-fits}
+use Rattle.flipcut.proofs.Values.{read-long}
 use Rattle.flipcut.proofs.Bits.{check-returns, build-returns, split-returns, read-returns, write-returns, score-returns}
 
 pub check-unpacks : {file : List ℕ} → File file → unpacked (packed (checked file)) ≡ checkNumbers file
@@ -34,12 +35,13 @@ split-unpacks {file} {S} {result = before} three p =
     let (splits, after) = p .promised in
     rw (p .packs, after) (split-returns (p .answer) (rw (splits .answers) (split-fits file S _)) before three) ∙ splits .numbers
 
-pub read-unpacks : {file : List ℕ} {list list′ : List Flip} {answer answer′ : Answer} {v : ℕ} → ReadsPacked file answer list v answer′ list′
-    → unpackedRead v answer′ ≡ readNumbers file (length list)
+pub read-unpacks : {file : List ℕ} {list list′ : List Flip} {result result′ : List ℕ} {v : ℕ} → length result ≡ 131 → ReadsPacked file list result v list′ result′
+    → unpackedRead v result′ ≡ readNumbers file (length list)
 unfolding reading
-read-unpacks {file} {list} {answer = before} p =
+read-unpacks {file} {list} {result = before} long p =
     let (reads, after) = p .promised in
-    rw (p .packs, after, reads .answers) (read-returns (contentIn file) (readTests file (length list)) before (read-fits file (length list)))
+    let room = length list in
+    rw (p .packs, after, reads .answers) (read-returns (contentIn file) (readTests file room) before long (read-long file room) (read-fits file room))
 
 pub write-unpacks : (answer : Answer) (list : List Flip) {out out′ : List ℕ} {v : ℕ} → WritesPacked answer list out v out′
     → unpackedWrite v ≡ writeNumbers (entryContent answer list) (length list) (length out)

@@ -1,12 +1,12 @@
 -- The packed numbers that C gets, one of 64 bits for each call. Bit 63 says whether the call was refused. If it was, bits 0 to 7 are the refusal's number
 -- and bits 8 to 62 its place. If not: of the check, n is in bits 0 to 15 and m in bits 16 to 31; of the build, the total is in bits 0 to 31 and the length
 -- written in bits 32 to 62, where writing has it too; of the score, lowers are in bits 0 to 30 and raises in bits 31 to 61. What the split and
--- the reading find does not fit, and is put into memory that is lent for it.
+-- the reading find does not fit, and is put into numbers that are lent for it.
 use mathlib.Core.Path.{_≡_}
 use mathlib.Core.List.{List}
-use Prim.Native.Nat.{ℕ, _+_, _*_, _^_}
+use Prim.Native.Nat.{ℕ, zero, suc, _+_, _*_, _^_}
 use lib.IntN.{ℤ}
-use lib.ListN.{set}
+use lib.ListN.{getD, set}
 use Rattle.record.specs.declared.Refusal.{Refusal}
 use Rattle.matrix.specs.declared.Checked.{Checked}
 use Rattle.matrix.specs.declared.Checked.the-variants.{Taken, Refused}
@@ -66,10 +66,17 @@ abbrev pub resultAfter : Divided → List ℕ → List ℕ
 resultAfter (splits.Taken cost A t) result = set (set (set result 0 cost) 1 A) 2 t
 resultAfter (splits.Refused why) result = result
 
--- What the lent value is at the end: the one that was read; on a refusal what it was.
-abbrev pub answerAfter : Verdict → Answer → Answer → Answer
-answerAfter verdict.Taken read before = read
-answerAfter (verdict.Refused why) read before = before
+-- The first k groups from place 5 on, and their costs from place 68 on.
+unfoldable pub withGroups : ℕ → List ℕ → List ℕ → List ℕ → List ℕ
+withGroups zero taxa costs result = result
+withGroups (suc k) taxa costs result = set (set (withGroups k taxa costs result) (5 + k) (getD taxa k 0)) (68 + k) (getD costs k 0)
+
+-- What a reading's 131 lent numbers are at the end: n, m, the two counts and the total, then the value's 63 groups, then its 63 costs; on a refusal what
+-- they were.
+abbrev pub valueAfter : Verdict → Answer → List ℕ → List ℕ
+valueAfter verdict.Taken a result =
+    withGroups 63 (a .taxa) (a .costs) (set (set (set (set (set result 0 (a .n)) 1 (a .m)) 2 (a .groups)) 3 (a .flips)) 4 (a .total))
+valueAfter (verdict.Refused why) a result = result
 
 -- A number that is some answer of an operation, packed, with what the operation promises of that answer.
 pub record Packs {A : Type 0} (pack : A → ℕ) (Promised : A → Type 0) (v : ℕ) : Type 0 where
@@ -85,10 +92,10 @@ BuildsPacked file ws out v ws′ out′ = Packs packedBuild (λ r. Builds file w
 abbrev pub SplitsPacked : List ℕ → ℕ → List ℤ → List ℕ → ℕ → List ℤ → List ℕ → Type 0
 SplitsPacked file S ws result v ws′ result′ = Packs packedSplit (λ r. Splits file S ws r ws′ × (result′ ≡ resultAfter r result)) v
 
--- What reading promises C; a value is lent for what it reads beside the flips.
-abbrev pub ReadsPacked : List ℕ → Answer → List Flip → ℕ → Answer → List Flip → Type 0
-ReadsPacked file answer list v answer′ list′ =
-    Packs (λ (r : Reading). packedRead (r .verdict)) (λ r. ReadsEntries file list r list′ × (answer′ ≡ answerAfter (r .verdict) (r .answer) answer)) v
+-- What reading promises C; 131 numbers are lent for what it reads beside the flips.
+abbrev pub ReadsPacked : List ℕ → List Flip → List ℕ → ℕ → List Flip → List ℕ → Type 0
+ReadsPacked file list result v list′ result′ =
+    Packs (λ (r : Reading). packedRead (r .verdict)) (λ r. ReadsEntries file list r list′ × (result′ ≡ valueAfter (r .verdict) (r .answer) result)) v
 
 -- What writing promises C.
 abbrev pub WritesPacked : Answer → List Flip → List ℕ → ℕ → List ℕ → Type 0

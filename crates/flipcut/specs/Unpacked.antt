@@ -1,12 +1,12 @@
 -- How C takes a packed number apart, as the functions of include/flipcut.h do, into the numbers that document 01 has an operation return.
 use mathlib.Core.Bool.{Bool, cond}
 use mathlib.Core.List.{List}
-use Prim.Native.Nat.{ℕ, _/_, _%_, _^_}
+use Prim.Native.Nat.{ℕ, _+_, _/_, _%_, _^_}
 use lib.Dec.{eqb}
 use lib.ListN.{getD}
 use Rattle.matrix.specs.Check as check
 use Rattle.answer.specs.declared.Answer.{Answer}
-use Rattle.answer.specs.Content.{answerOf}
+use Rattle.answer.specs.Content.{numbersOf, answerOf}
 use Rattle.answer.specs.Reading as reading
 use Rattle.answer.specs.Writing as writing
 use Rattle.split.specs.Operation as split
@@ -33,7 +33,7 @@ placeIn v = cond (refusedIn v) (bits v 8 55) 0
 unfoldable pub resultIn : ℕ → ℕ → ℕ → ℕ
 resultIn v low width = cond (refusedIn v) 0 (bits v low width)
 
--- A result that stands in memory that was lent for it, and `none` on a refusal.
+-- A result that stands in numbers that were lent for it, and `none` on a refusal.
 unfoldable pub lentResult : {X : Type 0} → ℕ → X → X → X
 lentResult v none lent = cond (refusedIn v) none lent
 
@@ -51,9 +51,23 @@ unpackedSplit v result =
     let at : ℕ → ℕ = λ k. lentResult v 0 (getD result k 0) in
     record { number = numberIn v; place = placeIn v; cost = at 0; side = at 1; t = at 2 }
 
--- The number, the place and the value of a packed reading and its lent value.
-abbrev pub unpackedRead : ℕ → Answer → reading.Returned
-unpackedRead v answer = record { number = numberIn v; place = placeIn v; answer = lentResult v (answerOf reading.empty) answer }
+-- The value that a reading's 131 numbers are.
+abbrev pub valueIn : List ℕ → Answer
+valueIn result =
+    let at : ℕ → ℕ = λ k. getD result k 0 in
+    record {
+      n = at 0;
+      m = at 1;
+      groups = at 2;
+      flips = at 3;
+      total = at 4;
+      taxa = numbersOf (λ i. at (5 + i)) 63;
+      costs = numbersOf (λ i. at (68 + i)) 63;
+    }
+
+-- The number, the place and the value of a packed reading and its numbers.
+abbrev pub unpackedRead : ℕ → List ℕ → reading.Returned
+unpackedRead v result = record { number = numberIn v; place = placeIn v; answer = lentResult v (answerOf reading.empty) (valueIn result) }
 
 -- The number, the place and the length of a packed writing.
 abbrev pub unpackedWrite : ℕ → writing.Returned

@@ -6,13 +6,11 @@ use entries::Flip;
 ghost use Rattle.flipcut.specs.Packed.{ReadsPacked, WritesPacked};
 
 #[no_mangle]
-pub extern "C" fn flipcut_read(file: &[u8], answer: &mut Answer, list: &mut [Flip]) -> u64
+pub extern "C" fn flipcut_read(file: &[u8], list: &mut [Flip], result: &mut [u64; 131]) -> u64
     ensures { λ r. ⌜
-        ReadsPacked (now (file .entry)) (now (answer .entry)) (now (list .entry)) r (now (answer .exit)) (now (list .exit)) ⌝ }
+        ReadsPacked (now (file .entry)) (now (list .entry)) (now (result .entry)) r (now (list .exit)) (now (result .exit)) ⌝ }
 {
-    let reading = entries::read_answer(file, list);
-    *answer = pack::answer_after(reading, *answer);
-    pack::read(reading)
+    pack::read(entries::read_answer(file, list), result)
 }
 
 #[no_mangle]

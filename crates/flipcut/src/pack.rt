@@ -9,7 +9,8 @@ use score::Scored;
 use split::Divided;
 use tree::Built;
 ghost use mathlib.Core.Path.{_≡_};
-ghost use Rattle.flipcut.specs.Packed.{packed, packedBuild, packedRead, packedRefusal, packedScore, packedSplit, packedWrite, resultAfter, answerAfter};
+ghost use Rattle.flipcut.specs.Packed.{packed, packedBuild, packedRead, packedRefusal, packedScore, packedSplit, packedWrite, resultAfter, valueAfter, withGroups};
+ghost use Rattle.answer.specs.declared.Verdict.the-variants.{Taken};
 ghost use Rattle.flipcut.specs.inner.Fitting.{RefusalFits, CheckFits, BuildFits, SplitFits, ReadFits, WriteFits, ScoreFits};
 
 fn refusal(why: Refusal) -> u64
@@ -55,25 +56,43 @@ pub fn split(answer: Divided, result: &mut [u64; 3]) -> u64
     }
 }
 
-pub fn read(reading: Reading) -> u64
-    requires { ⌜ ReadFits (reading .verdict) ⌝ }
-    ensures { λ r. ⌜ r ≡ packedRead (reading .verdict) ⌝ }
+// The groups, and their costs behind them.
+fn put_groups(result: &mut [u64; 131], answer: Answer)
+    ensures { λ _. ⌜ now (result .exit) ≡ withGroups 63 (answer .taxa) (answer .costs) (now (result .entry)) ⌝ }
 {
-    let verdict = reading.verdict;
-    match verdict {
-        Verdict::Taken => 0,
-        Verdict::Refused(why) => refusal(why),
+    let mut i: usize = 0;
+    while i < 63 {
+        result[5 + i] = answer.taxa[i];
+        result[68 + i] = answer.costs[i] as u64;
+        i += 1;
     }
 }
 
-// The value that was read, and on a refusal the one that was there before.
-pub fn answer_after(reading: Reading, before: Answer) -> Answer
-    ensures { λ r. ⌜ r ≡ answerAfter (reading .verdict) (reading .answer) before ⌝ }
+fn put_value(result: &mut [u64; 131], answer: Answer)
+    ensures { λ _. ⌜ now (result .exit) ≡ valueAfter Taken answer (now (result .entry)) ⌝ }
+{
+    result[0] = answer.n as u64;
+    result[1] = answer.m as u64;
+    result[2] = answer.groups as u64;
+    result[3] = answer.flips as u64;
+    result[4] = answer.total as u64;
+    put_groups(result, answer);
+}
+
+// What was read is put into `result`.
+pub fn read(reading: Reading, result: &mut [u64; 131]) -> u64
+    requires { ⌜ ReadFits (reading .verdict) ⌝ }
+    ensures { λ r. ⌜
+        (r ≡ packedRead (reading .verdict)) × (now (result .exit) ≡ valueAfter (reading .verdict) (reading .answer) (now (result .entry))) ⌝ }
 {
     let verdict = reading.verdict;
     match verdict {
-        Verdict::Taken => reading.answer,
-        Verdict::Refused(_why) => before,
+        Verdict::Taken => {
+            let answer = reading.answer;
+            put_value(result, answer);
+            0
+        }
+        Verdict::Refused(why) => refusal(why),
     }
 }
 

@@ -18,7 +18,7 @@ use Rattle.split.specs.declared.Divided.{Divided}
 use Rattle.split.specs.declared.Divided.the-variants as splits
 use Rattle.split.specs.Operation as split
 use Rattle.tree.specs.Build as build
-use Rattle.flipcut.specs.Packed.{packedBuild, packedSplit, packedRead, packedWrite, resultAfter, answerAfter, BuildsPacked, SplitsPacked, ReadsPacked, WritesPacked}
+use Rattle.flipcut.specs.Packed.{packedBuild, packedSplit, packedRead, packedWrite, resultAfter, valueAfter, BuildsPacked, SplitsPacked, ReadsPacked, WritesPacked}
 use Rattle.flipcut.specs.Unpacked.{numberIn}
 use Rattle.flipcut.proofs.Unpacking.{build-unpacks, split-unpacks, read-unpacks, write-unpacks}
 use Rattle.promises.proofs.Refusals.{refused-build, refused-split}
@@ -47,20 +47,20 @@ refused-split-from-c {result = result} three p some =
     let (cost, side, t, workspace) = refused-split splits refused in
     (workspace, after ∙ kept-result (p .answer) refused result)
 
-kept-value : (r : Reading) → reading.returned r .number ≢ 0 → (before : Answer) → answerAfter (r .verdict) (r .answer) before ≡ before
-kept-value r = go (r .verdict)
+kept-numbers : (r : Reading) → reading.returned r .number ≢ 0 → (result : List ℕ) → valueAfter (r .verdict) (r .answer) result ≡ result
+kept-numbers r = go (r .verdict)
   where
-    go : (d : Verdict) → reading.returnedBy d (r .answer) .number ≢ 0 → (before : Answer) → answerAfter d (r .answer) before ≡ before
-    go verdict.Taken some before = absurd (some refl)
-    go (verdict.Refused why) some before = refl
+    go : (d : Verdict) → reading.returnedBy d (r .answer) .number ≢ 0 → (result : List ℕ) → valueAfter d (r .answer) result ≡ result
+    go verdict.Taken some result = absurd (some refl)
+    go (verdict.Refused why) some result = refl
 
-pub refused-read-from-c : {file : List ℕ} {list list′ : List Flip} {answer answer′ : Answer} {v : ℕ} → ReadsPacked file answer list v answer′ list′ → numberIn v ≢ 0
-    → (answer′ ≡ answer) × (list′ ≡ list)
-refused-read-from-c {answer = before} p some =
+pub refused-read-from-c : {file : List ℕ} {list list′ : List Flip} {result result′ : List ℕ} {v : ℕ} → length result ≡ 131 → ReadsPacked file list result v list′ result′
+    → numberIn v ≢ 0 → (list′ ≡ list) × (result′ ≡ result)
+refused-read-from-c {result = result} long p some =
     let (reads, after) = p .promised in
-    let same = ap (λ (x : reading.Returned). x .number) (read-unpacks p ∙ sym (reads .numbers)) in
+    let same = ap (λ (x : reading.Returned). x .number) (read-unpacks long p ∙ sym (reads .numbers)) in
     let refused : reading.returned (p .answer) .number ≢ 0 = λ none. some (same ∙ none) in
-    (after ∙ kept-value (p .answer) refused before, refused-read-of-entries reads refused .1)
+    (refused-read-of-entries reads refused .1, after ∙ kept-numbers (p .answer) refused result)
 
 pub refused-write-from-c : (answer : Answer) (list : List Flip) {out out′ : List ℕ} {v : ℕ} → WritesPacked answer list out v out′ → numberIn v ≢ 0 → out′ ≡ out
 refused-write-from-c answer list p some =
@@ -81,13 +81,13 @@ one-split-from-c {result = result} p q =
     let (same, workspace) = one-split (p .promised .0) (q .promised .0) in
     (p .packs ∙ ap packedSplit same ∙ sym (q .packs), workspace, p .promised .1 ∙ ap (λ (r : Divided). resultAfter r result) same ∙ sym (q .promised .1))
 
-pub one-read-from-c : {file : List ℕ} {answer : Answer} {list : List Flip} {v v′ : ℕ} {answer′ answer″ : Answer} {list′ list″ : List Flip}
-    → ReadsPacked file answer list v answer′ list′ → ReadsPacked file answer list v′ answer″ list″ → (v ≡ v′) × (answer′ ≡ answer″) × (list′ ≡ list″)
-one-read-from-c {answer = before} p q =
+pub one-read-from-c : {file : List ℕ} {list : List Flip} {result : List ℕ} {v v′ : ℕ} {list′ list″ : List Flip} {result′ result″ : List ℕ}
+    → ReadsPacked file list result v list′ result′ → ReadsPacked file list result v′ list″ result″ → (v ≡ v′) × (list′ ≡ list″) × (result′ ≡ result″)
+one-read-from-c {result = result} p q =
     let (same, entries) = one-read-of-entries (p .promised .0) (q .promised .0) in (
       p .packs ∙ ap (λ (r : Reading). packedRead (r .verdict)) same ∙ sym (q .packs),
-      p .promised .1 ∙ ap (λ (r : Reading). answerAfter (r .verdict) (r .answer) before) same ∙ sym (q .promised .1),
       entries,
+      p .promised .1 ∙ ap (λ (r : Reading). valueAfter (r .verdict) (r .answer) result) same ∙ sym (q .promised .1),
     )
 
 pub one-write-from-c : (answer : Answer) (list : List Flip) {out : List ℕ} {v v′ : ℕ} {out′ out″ : List ℕ} → WritesPacked answer list out v out′

@@ -14,10 +14,10 @@ ghost use Rattle.flipcut.specs.Packed.{ReadsPacked, WritesPacked};
 ghost use Rattle.promises.specs.Held.{InWidths};
 
 // Read an answer, as C calls it: `entries::read_answer`, and what it answers packed.
-pub fn read_from_c(file: &[u8], answer: &mut Answer, list: &mut [Flip]) -> u64
-    ensures { λ r. ⌜ ReadsPacked (now (file .entry)) (now (answer .entry)) (now (list .entry)) r (now (answer .exit)) (now (list .exit)) ⌝ }
+pub fn read_from_c(file: &[u8], list: &mut [Flip], result: &mut [u64; 131]) -> u64
+    ensures { λ r. ⌜ ReadsPacked (now (file .entry)) (now (list .entry)) (now (result .entry)) r (now (list .exit)) (now (result .exit)) ⌝ }
 {
-    flipcut_read(file, answer, list)
+    flipcut_read(file, list, result)
 }
 
 // Write an answer, as C calls it: `entries::write_answer`, and what it answers packed.

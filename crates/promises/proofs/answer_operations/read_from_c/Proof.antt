@@ -18,15 +18,14 @@ use types.Run.{look, init, forget, stop, hop, fld, from, load, addr, and-then, n
 use types.Part.{agg, whole, sub, look-in}
 use sound.WpLaws.{FmC, fmOf}
 use denote.Plain.{uint-lawful}
-use denote.Builtin.{u8}
+use denote.Builtin.{u8, u64}
+use denote.Array.{Array}
 use denote.Ref.{RefT, ptr-vals, mut-tells}
 use denote.Slice.{Room, slice-vals, mut-slice-tells, shr-slice-tells}
 use denote.Triple.Spec.{Meets, tripleOf}
 use denote.Triple.Statement.{Contract, Triple}
 use denote.Triple.Call.{calls-at}
 use denote.Triple.Table.{entered, cited}
-use Rattle.answer.specs.declared.Answer.{Answer}
-use Rattle.answer.proofs.Answer as An
 use Rattle.entries.specs.declared.Flip.{Flip}
 use Rattle.entries.proofs.Flip as T
 use Rattle.entries.proofs.Walks.{downs, all-free, held, sets}
@@ -44,25 +43,26 @@ module _ {M : Type 1} (𝓤 : URA M) (H : Heap 𝓤) (A : Atoms 𝓤) (mem : Mem
   abbrev Called : Contract 𝓤
   Called = tripleOf 𝓤 H A called′.signature (called′.spec 𝓤 H A mem run)
 
-  module _ (W : Given 𝓤 H A) (κs : Lfts 3) (qs : Shares 3) (x : RefT (List ℕ)) (y : RefT Answer) (z : RefT (List Flip)) where
+  module _ (W : Given 𝓤 H A) (κs : Lfts 3) (qs : Shares 3) (x : RefT (List ℕ)) (y : RefT (List Flip)) (z : RefT (List ℕ)) where
     abbrev bound : Called .Ghost
-    bound = ((κs, qs, tt, (x, (y, (z, tt))), (slice-vals x, (ptr-vals y, (slice-vals z, tt)))), tt)
+    bound = ((κs, qs, tt, (x, (y, (z, tt))), (slice-vals x, (slice-vals y, (ptr-vals z, tt)))), tt)
 
-    walk : (C : Calls 𝓤 H) (Λ : Loops 𝓤 H) → FmC 𝓤 H (W .laws) C → Triple 𝓤 (C #flipcut·answers·flipcut-read) Called → Room u8 (length (x .now)) → Room T.the-row (length (z .now)) → ent 𝓤 (Called .pre bound) (WpFn 𝓤 H C Λ code.function (Called .args bound) (Called .post bound))
+    walk : (C : Calls 𝓤 H) (Λ : Loops 𝓤 H) → FmC 𝓤 H (W .laws) C → Triple 𝓤 (C #flipcut·answers·flipcut-read) Called → Room u8 (length (x .now)) → Room T.the-row (length (y .now)) → ent 𝓤 (Called .pre bound) (WpFn 𝓤 H C Λ code.function (Called .args bound) (Called .post bound))
     walk C Λ fm known room room₁ =
         qed W (raw (Called .pre bound) ∷ []) ∵ enter ! C Λ code.function (Called .args bound) _ $ alloc1 ! (λ l₀. alloc1 ! (λ l₁. alloc1 ! (λ l₂. alloc1 ! (λ l₃. alloc1 ! (λ l₄. alloc1 ! (λ l₅. alloc1 ! (λ l₆. alloc0 ! $ params1 ! $
-        pass1 ! (init ! 10 refl (tt, (tt, (record { fits = room .0 }, tt)))) $ pass1 ! (init ! 8 refl (tt, tt)) $ pass1 ! (init ! 6 refl (tt, (tt, (record { fits = room₁ .0 }, tt)))) $ pass0 ! $
-        sets ! (addr ! (from ! (hop ! (look ! 8 refl) (stop !)))) 4 refl (tt, tt) $ sets ! (addr ! (from ! (fld ! refl (hop ! (look-in ! 6 (sub ! 0 refl (whole !))) (stop !))))) 2 refl (tt, tt) $
-        sets ! (agg ! (and-then ! (held ! 2 refl) (and-then ! (load ! (from ! (fld ! refl (stop !))) (look-in ! 6 (sub ! 1 refl (whole !)))) (no-more !)))) 0 refl (tt, (tt, (record { fits = room₁ .0 }, tt))) $
-        move ! (14 ∷ []) $ calls-at ! fm Called known bound (and-then ! (held ! 11 refl) (and-then ! (held ! 5 refl) (and-then ! (held ! 1 refl) (no-more !)))) (λ v. returned 𝓤 H A called′.signature (called′.spec 𝓤 H A mem run) bound v ! tt (λ r is.
+        pass1 ! (init ! 10 refl (tt, (tt, (record { fits = room .0 }, tt)))) $ pass1 ! (init ! 8 refl (tt, (tt, (record { fits = room₁ .0 }, tt)))) $ pass1 ! (init ! 6 refl (tt, tt)) $ pass0 ! $
+        sets ! (addr ! (from ! (fld ! refl (hop ! (look-in ! 8 (sub ! 0 refl (whole !))) (stop !))))) 4 refl (tt, tt) $
+        sets ! (agg ! (and-then ! (held ! 4 refl) (and-then ! (load ! (from ! (fld ! refl (stop !))) (look-in ! 8 (sub ! 1 refl (whole !)))) (no-more !)))) 2 refl (tt, (tt, (record { fits = room₁ .0 }, tt))) $
+        sets ! (addr ! (from ! (hop ! (look ! 6 refl) (stop !)))) 0 refl (tt, tt) $
+        move ! (14 ∷ []) $ calls-at ! fm Called known bound (and-then ! (held ! 11 refl) (and-then ! (held ! 3 refl) (and-then ! (held ! 1 refl) (no-more !)))) (λ v. returned 𝓤 H A called′.signature (called′.spec 𝓤 H A mem run) bound v ! tt (λ r is.
         land ! (from ! (stop !)) (init ! 13 refl (uint-lawful 𝓤 H A W w64 .typed r _ is .0)) $ returns ! (look ! 13 refl) $
         forget ! 13 refl $ forget ! 11 refl $ forget ! 9 refl $ forget ! 7 refl $ forget ! 5 refl $ forget ! 3 refl $ forget ! 1 refl $ move ! (downs 13 7 ++ downs 14 7) $ all-free ! _ $ by ! (owed 𝓤 H A called′.signature (called′.spec 𝓤 H A mem run) bound v W r))))))))))
 
   passes-on : (W : Given 𝓤 H A) (𝓣 : Tables 𝓤 H) → Triple 𝓤 (𝓣 .C #flipcut·answers·flipcut-read) Called → Meets 𝓤 H A own′.signature (WpFn 𝓤 H (𝓣 .C) (𝓣 .Λ) code.function) (own′.spec 𝓤 H A mem run)
   passes-on W 𝓣 known =
-      spelled 𝓤 H A own′.signature (own′.spec 𝓤 H A mem run) (WpFn 𝓤 H (𝓣 .C) (𝓣 .Λ) code.function) (λ κs. (slice-vals, (ptr-vals, (slice-vals, tt))))
-      (λ κs. (shr-slice-tells (named 0) (κs .0) u8, (mut-tells (named 1) (κs .1 .0) An.the-row, (mut-slice-tells (named 2) (κs .1 .1 .0) T.the-row, tt))))
-      (λ κs qs bounds a g are. walk W κs qs (a .0) (a .1 .0) (a .1 .1 .0) (𝓣 .C) (𝓣 .Λ) (fmOf 𝓤 H (W .laws) 𝓣) known (are .0 .0 .1) (are .1 .1 .0 .0 .1))
+      spelled 𝓤 H A own′.signature (own′.spec 𝓤 H A mem run) (WpFn 𝓤 H (𝓣 .C) (𝓣 .Λ) code.function) (λ κs. (slice-vals, (slice-vals, (ptr-vals, tt))))
+      (λ κs. (shr-slice-tells (named 0) (κs .0) u8, (mut-slice-tells (named 1) (κs .1 .0) T.the-row, (mut-tells (named 2) (κs .1 .1 .0) (Array u64 131), tt))))
+      (λ κs qs bounds a g are. walk W κs qs (a .0) (a .1 .0) (a .1 .1 .0) (𝓣 .C) (𝓣 .Λ) (fmOf 𝓤 H (W .laws) 𝓣) known (are .0 .0 .1) (are .1 .0 .0 .1))
 
 pub read-from-c-spec : {M : Type 1} → stated.statement M
 unfolding code.routine tablesOf
