@@ -24,6 +24,7 @@ uint64_t split_alone(const uint8_t *file, size_t len, uint64_t group, int32_t *w
 static uint8_t out[OUT_LENGTH], again[OUT_LENGTH];
 static size_t written;  // the length of the build's answer, in `out`
 static uint64_t numbers[FLIPCUT_READ_RESULTS];
+static struct flipcut_answer answer;
 static struct flipcut_flip flips[M];
 static uint64_t divided[FLIPCUT_SPLIT_RESULTS];
 static bool taken;  // whether the operation that ran last took what it was given
@@ -40,10 +41,13 @@ static void split_of_one(void) { taken = split_alone(file, file_length, ~0ull, w
 static void split_of_two(void) {
     taken = !flipcut_refused(flipcut_split(file, file_length, ~0ull, ws, N * M, divided));
 }
-static void read_back(void) { taken = !flipcut_refused(flipcut_read(out, written, flips, M, numbers)); }
+// What is to be written has a call of its own, so that its stack is not under the reading's.
+static __attribute__((noinline)) void make_answer(void) { answer = flipcut_answer_of(numbers); }
+static void read_back(void) {
+    taken = !flipcut_refused(flipcut_read(out, written, flips, M, numbers));
+    make_answer();
+}
 static void write_again(void) {
-    static struct flipcut_answer answer;  // the caller's own, not on the stack that is measured
-    answer = flipcut_answer_of(numbers);
     taken = flipcut_written(flipcut_write(&answer, flips, M, again, OUT_LENGTH)) == written;
 }
 static void score(void) { taken = !flipcut_refused(flipcut_score(file, file_length, out, written)); }
