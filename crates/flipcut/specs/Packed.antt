@@ -66,10 +66,17 @@ abbrev pub resultAfter : Divided → List ℕ → List ℕ
 resultAfter (splits.Taken cost A t) result = set (set (set result 0 cost) 1 A) 2 t
 resultAfter (splits.Refused why) result = result
 
--- The first k groups from place 5 on, and their costs from place 68 on.
+-- Where the groups start among a reading's numbers, and where their costs do.
+abbrev pub groupsAt : ℕ
+groupsAt = 5
+
+abbrev pub costsAt : ℕ
+costsAt = 68
+
+-- The first k groups, and their costs, in their places.
 unfoldable pub withGroups : ℕ → List ℕ → List ℕ → List ℕ → List ℕ
 withGroups zero taxa costs result = result
-withGroups (suc k) taxa costs result = set (set (withGroups k taxa costs result) (5 + k) (getD taxa k 0)) (68 + k) (getD costs k 0)
+withGroups (suc k) taxa costs result = set (set (withGroups k taxa costs result) (groupsAt + k) (getD taxa k 0)) (costsAt + k) (getD costs k 0)
 
 -- What a reading's 131 lent numbers are at the end: n, m, the two counts and the total, then the value's 63 groups, then its 63 costs; on a refusal what
 -- they were.

@@ -12,6 +12,7 @@ use Rattle.answer.specs.Writing as writing
 use Rattle.split.specs.Operation as split
 use Rattle.tree.specs.Build as build
 use Rattle.score.specs.Operation as score
+use Rattle.flipcut.specs.Packed.{groupsAt, costsAt}
 
 -- The bits of a packed number from `low` on, `width` of them.
 abbrev pub bits : ℕ → ℕ → ℕ → ℕ
@@ -61,8 +62,8 @@ valueIn result =
       groups = at 2;
       flips = at 3;
       total = at 4;
-      taxa = numbersOf (λ i. at (5 + i)) 63;
-      costs = numbersOf (λ i. at (68 + i)) 63;
+      taxa = numbersOf (λ i. at (groupsAt + i)) 63;
+      costs = numbersOf (λ i. at (costsAt + i)) 63;
     }
 
 -- The number, the place and the value of a packed reading and its numbers.

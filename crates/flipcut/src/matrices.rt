@@ -1,5 +1,6 @@
 // The operations on a matrix file, as C calls them.
 use super::pack;
+use super::pack::SPLIT_RESULTS;
 ghost use mathlib.Core.Path.{_≡_};
 ghost use Rattle.matrix.specs.Check.{checked};
 ghost use Rattle.score.specs.Operation.{scored};
@@ -25,7 +26,7 @@ pub extern "C" fn flipcut_split(
     matrix: &[u8],
     group: u64,
     workspace: &mut [i32],
-    result: &mut [u64; 3],
+    result: &mut [u64; SPLIT_RESULTS],
 ) -> u64
     ensures { λ r. ⌜
         SplitsPacked (now (matrix .entry)) group (now (workspace .entry)) (now (result .entry)) r (now (workspace .exit)) (now (result .exit)) ⌝ }

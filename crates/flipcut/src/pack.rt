@@ -13,6 +13,16 @@ ghost use Rattle.flipcut.specs.Packed.{packed, packedBuild, packedRead, 
 ghost use Rattle.answer.specs.declared.Verdict.the-variants.{Taken};
 ghost use Rattle.flipcut.specs.inner.Fitting.{RefusalFits, CheckFits, BuildFits, SplitFits, ReadFits, WriteFits, ScoreFits};
 
+const MOST_GROUPS: usize = 63;
+// What a split, and a reading, puts into numbers that are lent for it: how many, and where the groups and their costs start.
+pub const SPLIT_RESULTS: usize = 3;
+
+const GROUPS_AT: usize = 5;
+
+const COSTS_AT: usize = GROUPS_AT + MOST_GROUPS;
+
+pub const READ_RESULTS: usize = COSTS_AT + MOST_GROUPS;
+
 fn refusal(why: Refusal) -> u64
     requires { ⌜ RefusalFits why ⌝ }
     ensures { λ r. ⌜ r ≡ packedRefusal why ⌝ }
@@ -41,7 +51,7 @@ pub fn build(answer: Built) -> u64
 }
 
 // What was found is put into `result`.
-pub fn split(answer: Divided, result: &mut [u64; 3]) -> u64
+pub fn split(answer: Divided, result: &mut [u64; SPLIT_RESULTS]) -> u64
     requires { ⌜ SplitFits answer ⌝ }
     ensures { λ r. ⌜ (r ≡ packedSplit answer) × (now (result .exit) ≡ resultAfter answer (now (result .entry))) ⌝ }
 {
@@ -57,18 +67,18 @@ pub fn split(answer: Divided, result: &mut [u64; 3]) -> u64
 }
 
 // The groups, and their costs behind them.
-fn put_groups(result: &mut [u64; 131], answer: Answer)
+fn put_groups(result: &mut [u64; READ_RESULTS], answer: Answer)
     ensures { λ _. ⌜ now (result .exit) ≡ withGroups 63 (answer .taxa) (answer .costs) (now (result .entry)) ⌝ }
 {
     let mut i: usize = 0;
-    while i < 63 {
-        result[5 + i] = answer.taxa[i];
-        result[68 + i] = answer.costs[i] as u64;
+    while i < MOST_GROUPS {
+        result[GROUPS_AT + i] = answer.taxa[i];
+        result[COSTS_AT + i] = answer.costs[i] as u64;
         i += 1;
     }
 }
 
-fn put_value(result: &mut [u64; 131], answer: Answer)
+fn put_value(result: &mut [u64; READ_RESULTS], answer: Answer)
     ensures { λ _. ⌜ now (result .exit) ≡ valueAfter Taken answer (now (result .entry)) ⌝ }
 {
     result[0] = answer.n as u64;
@@ -80,7 +90,7 @@ fn put_value(result: &mut [u64; 131], answer: Answer)
 }
 
 // What was read is put into `result`.
-pub fn read(reading: Reading, result: &mut [u64; 131]) -> u64
+pub fn read(reading: Reading, result: &mut [u64; READ_RESULTS]) -> u64
     requires { ⌜ ReadFits (reading .verdict) ⌝ }
     ensures { λ r. ⌜
         (r ≡ packedRead (reading .verdict)) × (now (result .exit) ≡ valueAfter (reading .verdict) (reading .answer) (now (result .entry))) ⌝ }
