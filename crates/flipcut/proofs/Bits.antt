@@ -12,6 +12,7 @@ use Rattle.record.specs.declared.Refusal.{Refusal}
 use Rattle.matrix.specs.declared.Checked.{Checked}
 use Rattle.matrix.specs.declared.Checked.the-variants as checks
 use Rattle.matrix.specs.Check as check
+use Rattle.answer.specs.declared.Verdict.the-variants as verdict
 use Rattle.answer.specs.declared.Written.{Written}
 use Rattle.answer.specs.declared.Written.the-variants as written
 use Rattle.answer.specs.Content.{Content, padded, answerOf}
@@ -87,7 +88,8 @@ check-returns (checks.Taken n m) (l, k) =
     let first : bits v 0 16 ≡ n = omega arith in
     let second : bits v 16 16 ≡ m = omega arith in
     λ i. record { number = no-number v low i; place = no-place v low i; n = (result v low 0 16 ∙ first) i; m = (result v low 16 16 ∙ second) i }
-check-returns (checks.Refused why) fits = λ i. record { number = number why fits i; place = place why fits i; n = no-result why fits 0 16 i; m = no-result why fits 16 16 i }
+check-returns (checks.Refused why) fits =
+    λ i. record { number = number why fits i; place = place why fits i; n = no-result why fits 0 16 i; m = no-result why fits 16 16 i }
 
 pub build-returns : (a : Built) → BuildFits a → unpackedBuild (packedBuild a) ≡ build.returned a
 build-returns (builds.Taken size sum) (l, k) =
@@ -107,7 +109,8 @@ all-set (x ∷ y ∷ []) e a b c = absurd (omega arith)
 all-set (x ∷ y ∷ z ∷ []) e a b c = refl
 all-set (x ∷ y ∷ z ∷ w ∷ ws) e a b c = absurd (omega arith)
 
-pub split-returns : (a : Divided) → SplitFits a → (before : List ℕ) → length before ≡ 3 → unpackedSplit (packedSplit a) (resultAfter a before) ≡ split.returned a
+pub split-returns : (a : Divided) → SplitFits a → (before : List ℕ) → length before ≡ 3
+    → unpackedSplit (packedSplit a) (resultAfter a before) ≡ split.returned a
 split-returns (splits.Taken cost A t) fits before three =
     let low : _<_ 0 (2 ^ 63) = omega arith in
     let lent : (k : ℕ) → lentResult 0 0 (getD (resultAfter (splits.Taken cost A t) before) k 0) ≡ getD (cost ∷ A ∷ t ∷ []) k 0
@@ -123,7 +126,9 @@ pub read-returns : (c : Content) (p : Passed) (before : List ℕ) → length bef
     → unpackedRead (packedRead (r .verdict)) (valueAfter (r .verdict) (r .answer) before) ≡ reading.returned r
 read-returns c (passed.At here) before long full fits =
     let low : _<_ 0 (2 ^ 63) = omega arith in
-    λ i. record { number = no-number 0 low i; place = no-place 0 low i; answer = (lent-result 0 low (answerOf empty) _ ∙ value-put (answerOf c) before long (full here refl .0) (full here refl .1)) i }
+    let (taxa, costs) = full here refl in
+    let value = lent-result 0 low (answerOf empty) (valueIn (valueAfter verdict.Taken (answerOf c) before)) ∙ value-put (answerOf c) before long taxa costs in
+    λ i. record { number = no-number 0 low i; place = no-place 0 low i; answer = value i }
 read-returns c (passed.Refused why) before long full fits =
     λ i. record { number = number why fits i; place = place why fits i; answer = none-lent why fits (answerOf empty) (valueIn before) i }
 

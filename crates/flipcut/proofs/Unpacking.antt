@@ -29,14 +29,14 @@ pub build-unpacks : {file : List ℕ} → File file → {ws ws′ : List ℤ} {o
     → unpackedBuild v ≡ buildNumbers file (length ws) (length out)
 build-unpacks f p = ap unpackedBuild (p .packs) ∙ (build-returns (p .answer) (rw (p .promised .answers) (build-fits f _ _)) ∙ p .promised .numbers)
 
-pub split-unpacks : {file : List ℕ} {S : ℕ} {ws ws′ : List ℤ} {result result′ : List ℕ} {v : ℕ} → length result ≡ 3 → SplitsPacked file S ws result v ws′ result′
-    → unpackedSplit v result′ ≡ splitNumbers file S (length ws)
+pub split-unpacks : {file : List ℕ} {S : ℕ} {ws ws′ : List ℤ} {result result′ : List ℕ} {v : ℕ} → length result ≡ 3
+    → SplitsPacked file S ws result v ws′ result′ → unpackedSplit v result′ ≡ splitNumbers file S (length ws)
 split-unpacks {file} {S} {result = before} three p =
     let (splits, after) = p .promised in
     rw (p .packs, after) (split-returns (p .answer) (rw (splits .answers) (split-fits file S _)) before three) ∙ splits .numbers
 
-pub read-unpacks : {file : List ℕ} {list list′ : List Flip} {result result′ : List ℕ} {v : ℕ} → length result ≡ 131 → ReadsPacked file list result v list′ result′
-    → unpackedRead v result′ ≡ readNumbers file (length list)
+pub read-unpacks : {file : List ℕ} {list list′ : List Flip} {result result′ : List ℕ} {v : ℕ} → length result ≡ 131
+    → ReadsPacked file list result v list′ result′ → unpackedRead v result′ ≡ readNumbers file (length list)
 unfolding reading
 read-unpacks {file} {list} {result = before} long p =
     let (reads, after) = p .promised in

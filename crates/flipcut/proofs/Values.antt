@@ -19,50 +19,61 @@ use Rattle.answer.specs.Tests.{inFile, tests}
 use Rattle.answer.specs.Reading.{fileTests, readTests}
 use Rattle.answer.proofs.Files.{headOf, head-leads}
 use Rattle.answer.proofs.Runs.{length-entries, entries-are}
-use Rattle.flipcut.specs.Packed.{withGroups, valueAfter}
+use Rattle.flipcut.specs.Packed.{groupsAt, costsAt, withGroups, valueAfter}
 use Rattle.flipcut.specs.Unpacked.{valueIn}
 
 -- ---- the groups and costs in their places
 module _ (taxa costs xs : List ℕ) (long : length xs ≡ 131) where
-  still-long : (k : ℕ) → length (withGroups k taxa costs xs) ≡ 131
+  -- After k groups, and after the next group, before its cost.
+  abbrev put : ℕ → List ℕ
+  put k = withGroups k taxa costs xs
+
+  abbrev half : ℕ → List ℕ
+  half k = set (put k) (groupsAt + k) (getD taxa k 0)
+
+  still-long : (k : ℕ) → length (put k) ≡ 131
   unfolding withGroups
   still-long zero = long
-  still-long (suc k) = length-set (set (withGroups k taxa costs xs) (5 + k) (getD taxa k 0)) (68 + k) _ ∙ length-set (withGroups k taxa costs xs) (5 + k) _ ∙ still-long k
+  still-long (suc k) = length-set (half k) (costsAt + k) (getD costs k 0) ∙ length-set (put k) (groupsAt + k) (getD taxa k 0) ∙ still-long k
 
   -- Place j has v: so it is after one more group, where neither of its two places is j.
-  kept-more : (j k : ℕ) → (j ≡ 5 + k → ⊥) → (j ≡ 68 + k → ⊥) → {v : ℕ} → getD (withGroups k taxa costs xs) j 0 ≡ v → getD (withGroups (suc k) taxa costs xs) j 0 ≡ v
+  kept-more : (j k : ℕ) → (j ≡ groupsAt + k → ⊥) → (j ≡ costsAt + k → ⊥) → {v : ℕ} → getD (put k) j 0 ≡ v → getD (put (suc k)) j 0 ≡ v
   unfolding withGroups
-  kept-more j k ne ne′ e =
-      getD-set-other (set (withGroups k taxa costs xs) (5 + k) (getD taxa k 0)) (68 + k) j (getD costs k 0) 0 ne′ ∙ getD-set-other (withGroups k taxa costs xs) (5 + k) j (getD taxa k 0) 0 ne ∙ e
+  kept-more j k no-group no-cost e =
+      getD-set-other (half k) (costsAt + k) j (getD costs k 0) 0 no-cost ∙ getD-set-other (put k) (groupsAt + k) j (getD taxa k 0) 0 no-group ∙ e
 
-  head-kept : (j k : ℕ) → j < 5 → getD (withGroups k taxa costs xs) j 0 ≡ getD xs j 0
+  head-kept : (j k : ℕ) → j < groupsAt → getD (put k) j 0 ≡ getD xs j 0
   unfolding withGroups
   head-kept j zero l = refl
   head-kept j (suc k) l = kept-more j k (λ e. omega arith) (λ e. omega arith) (head-kept j k l)
 
-  new-cost : (k : ℕ) → k < 63 → getD (withGroups (suc k) taxa costs xs) (68 + k) 0 ≡ getD costs k 0
+  new-cost : (k : ℕ) → k < 63 → getD (put (suc k)) (costsAt + k) 0 ≡ getD costs k 0
   unfolding withGroups
   new-cost k l =
-      let there = length-set (withGroups k taxa costs xs) (5 + k) (getD taxa k 0) in
-      getD-set-same (set (withGroups k taxa costs xs) (5 + k) (getD taxa k 0)) (68 + k) (getD costs k 0) 0 (omega (arith, there, still-long k))
+      let same = length-set (put k) (groupsAt + k) (getD taxa k 0) in
+      getD-set-same (half k) (costsAt + k) (getD costs k 0) 0 (omega (arith, same, still-long k))
 
-  new-group : (k : ℕ) → k < 63 → getD (withGroups (suc k) taxa costs xs) (5 + k) 0 ≡ getD taxa k 0
+  new-group : (k : ℕ) → k < 63 → getD (put (suc k)) (groupsAt + k) 0 ≡ getD taxa k 0
   unfolding withGroups
   new-group k l =
-      getD-set-other (set (withGroups k taxa costs xs) (5 + k) (getD taxa k 0)) (68 + k) (5 + k) (getD costs k 0) 0 (λ e. omega arith)
-      ∙ getD-set-same (withGroups k taxa costs xs) (5 + k) (getD taxa k 0) 0 (omega (arith, still-long k))
+      getD-set-other (half k) (costsAt + k) (groupsAt + k) (getD costs k 0) 0 (λ e. omega arith)
+      ∙ getD-set-same (put k) (groupsAt + k) (getD taxa k 0) 0 (omega (arith, still-long k))
 
-  group-at : (k i : ℕ) → k ≤ 63 → i < k → getD (withGroups k taxa costs xs) (5 + i) 0 ≡ getD taxa i 0
+  group-at : (k i : ℕ) → k ≤ 63 → i < k → getD (put k) (groupsAt + i) 0 ≡ getD taxa i 0
   group-at zero i l b = absurd (omega arith)
   group-at (suc k) i l b =
       let below : i ≤ k = omega arith in
-      ⊎-elim (λ e. rw e (new-group k (omega arith))) (λ less. kept-more (5 + i) k (λ e. omega arith) (λ e. omega arith) (group-at k i (omega arith) less)) (eq-or-lt-of-le below)
+      let before : i < k → getD (put (suc k)) (groupsAt + i) 0 ≡ getD taxa i 0
+      = λ less. kept-more (groupsAt + i) k (λ e. omega arith) (λ e. omega arith) (group-at k i (omega arith) less) in
+      ⊎-elim (λ e. rw e (new-group k (omega arith))) before (eq-or-lt-of-le below)
 
-  cost-at : (k i : ℕ) → k ≤ 63 → i < k → getD (withGroups k taxa costs xs) (68 + i) 0 ≡ getD costs i 0
+  cost-at : (k i : ℕ) → k ≤ 63 → i < k → getD (put k) (costsAt + i) 0 ≡ getD costs i 0
   cost-at zero i l b = absurd (omega arith)
   cost-at (suc k) i l b =
       let below : i ≤ k = omega arith in
-      ⊎-elim (λ e. rw e (new-cost k (omega arith))) (λ less. kept-more (68 + i) k (λ e. omega arith) (λ e. omega arith) (cost-at k i (omega arith) less)) (eq-or-lt-of-le below)
+      let before : i < k → getD (put (suc k)) (costsAt + i) 0 ≡ getD costs i 0
+      = λ less. kept-more (costsAt + i) k (λ e. omega arith) (λ e. omega arith) (cost-at k i (omega arith) less) in
+      ⊎-elim (λ e. rw e (new-cost k (omega arith))) before (eq-or-lt-of-le below)
 
 -- ---- the whole value
 
@@ -81,17 +92,17 @@ value-put a before long full full′ =
     let five : List ℕ = set (set (set (set (set before 0 (a .n)) 1 (a .m)) 2 (a .groups)) 3 (a .flips)) 4 (a .total) in
     let after : ℕ → ℕ = λ j. getD (valueAfter Taken a before) j 0 in
     let (long′, n, m, groups, flips, total) = five-set before long (a .n) (a .m) (a .groups) (a .flips) (a .total) in
-    let kept : (j : ℕ) → j < 5 → after j ≡ getD five j 0 = λ j l. head-kept (a .taxa) (a .costs) five long′ j 63 l in
-    let taxa : (k : ℕ) → k < 63 → after (5 + k) ≡ getD (a .taxa) k 0 = λ k l. group-at (a .taxa) (a .costs) five long′ 63 k (lit≤ tt) l in
-    let costs : (k : ℕ) → k < 63 → after (68 + k) ≡ getD (a .costs) k 0 = λ k l. cost-at (a .taxa) (a .costs) five long′ 63 k (lit≤ tt) l in
+    let kept : (j : ℕ) → j < groupsAt → after j ≡ getD five j 0 = λ j l. head-kept (a .taxa) (a .costs) five long′ j 63 l in
+    let taxa : (k : ℕ) → k < 63 → after (groupsAt + k) ≡ getD (a .taxa) k 0 = λ k l. group-at (a .taxa) (a .costs) five long′ 63 k (lit≤ tt) l in
+    let costs : (k : ℕ) → k < 63 → after (costsAt + k) ≡ getD (a .costs) k 0 = λ k l. cost-at (a .taxa) (a .costs) five long′ 63 k (lit≤ tt) l in
     λ i. record {
       n = (kept 0 (lit< tt) ∙ n) i;
       m = (kept 1 (lit< tt) ∙ m) i;
       groups = (kept 2 (lit< tt) ∙ groups) i;
       flips = (kept 3 (lit< tt) ∙ flips) i;
       total = (kept 4 (lit< tt) ∙ total) i;
-      taxa = entries-are (λ k. after (5 + k)) 63 (a .taxa) full taxa i;
-      costs = entries-are (λ k. after (68 + k)) 63 (a .costs) full′ costs i;
+      taxa = entries-are (λ k. after (groupsAt + k)) 63 (a .taxa) full taxa i;
+      costs = entries-are (λ k. after (costsAt + k)) 63 (a .costs) full′ costs i;
     }
 
 -- ---- a file that is read
@@ -104,5 +115,6 @@ read-long file room here e =
     let (last, tested, nothing) = through (tests (inFile file) (contentIn file) (flipCount file)) passed in
     let (first, headed, rest) = through (headOf file) tested in
     let (kept, at, long) = head-leads file headed in
-    let fits : (xs : List ℕ) → length xs ≡ contentIn file .groups → length (padded xs) ≡ 63 = λ xs n. length-over xs 0 (replicate 63 0) (omega (arith, n, kept .few, kept .fewer)) in
+    let fits : (xs : List ℕ) → length xs ≡ contentIn file .groups → length (padded xs) ≡ 63
+    = λ xs n. length-over xs 0 (replicate 63 0) (omega (arith, n, kept .few, kept .fewer)) in
     (fits _ (length-entries _ _), fits _ (length-entries _ _))

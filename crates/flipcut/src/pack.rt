@@ -9,14 +9,17 @@ use score::Scored;
 use split::Divided;
 use tree::Built;
 ghost use mathlib.Core.Path.{_≡_};
-ghost use Rattle.flipcut.specs.Packed.{packed, packedBuild, packedRead, packedRefusal, packedScore, packedSplit, packedWrite, resultAfter, valueAfter, withGroups};
+ghost use Rattle.flipcut.specs.Packed.{packed, packedBuild, packedRead, packedRefusal, packedScore, packedSplit, packedWrite};
+ghost use Rattle.flipcut.specs.Packed.{resultAfter, valueAfter, withGroups};
 ghost use Rattle.answer.specs.declared.Verdict.the-variants.{Taken};
 ghost use Rattle.flipcut.specs.inner.Fitting.{RefusalFits, CheckFits, BuildFits, SplitFits, ReadFits, WriteFits, ScoreFits};
 
 const MOST_GROUPS: usize = 63;
-// What a split, and a reading, puts into numbers that are lent for it: how many, and where the groups and their costs start.
+
+// How many numbers are lent for what a split finds: its cost, side A and t.
 pub const SPLIT_RESULTS: usize = 3;
 
+// And for what is read: five numbers, then the groups, then their costs.
 const GROUPS_AT: usize = 5;
 
 const COSTS_AT: usize = GROUPS_AT + MOST_GROUPS;

@@ -18,7 +18,8 @@ use Rattle.split.specs.declared.Divided.{Divided}
 use Rattle.split.specs.declared.Divided.the-variants as splits
 use Rattle.split.specs.Operation as split
 use Rattle.tree.specs.Build as build
-use Rattle.flipcut.specs.Packed.{packedBuild, packedSplit, packedRead, packedWrite, resultAfter, valueAfter, BuildsPacked, SplitsPacked, ReadsPacked, WritesPacked}
+use Rattle.flipcut.specs.Packed.{packedBuild, packedSplit, packedRead, packedWrite, resultAfter, valueAfter}
+use Rattle.flipcut.specs.Packed.{BuildsPacked, SplitsPacked, ReadsPacked, WritesPacked}
 use Rattle.flipcut.specs.Unpacked.{numberIn}
 use Rattle.flipcut.proofs.Unpacking.{build-unpacks, split-unpacks, read-unpacks, write-unpacks}
 use Rattle.promises.proofs.Refusals.{refused-build, refused-split}
@@ -38,8 +39,8 @@ kept-result : (r : Divided) → split.returned r .number ≢ 0 → (result : Lis
 kept-result (splits.Taken cost A t) some result = absurd (some refl)
 kept-result (splits.Refused why) some result = refl
 
-pub refused-split-from-c : {file : List ℕ} {S : ℕ} {ws ws′ : List ℤ} {result result′ : List ℕ} {v : ℕ} → length result ≡ 3 → SplitsPacked file S ws result v ws′ result′
-    → numberIn v ≢ 0 → (ws′ ≡ ws) × (result′ ≡ result)
+pub refused-split-from-c : {file : List ℕ} {S : ℕ} {ws ws′ : List ℤ} {result result′ : List ℕ} {v : ℕ} → length result ≡ 3
+    → SplitsPacked file S ws result v ws′ result′ → numberIn v ≢ 0 → (ws′ ≡ ws) × (result′ ≡ result)
 refused-split-from-c {result = result} three p some =
     let (splits, after) = p .promised in
     let same = ap (λ (x : split.Returned). x .number) (split-unpacks three p ∙ sym (splits .numbers)) in
@@ -54,8 +55,8 @@ kept-numbers r = go (r .verdict)
     go verdict.Taken some result = absurd (some refl)
     go (verdict.Refused why) some result = refl
 
-pub refused-read-from-c : {file : List ℕ} {list list′ : List Flip} {result result′ : List ℕ} {v : ℕ} → length result ≡ 131 → ReadsPacked file list result v list′ result′
-    → numberIn v ≢ 0 → (list′ ≡ list) × (result′ ≡ result)
+pub refused-read-from-c : {file : List ℕ} {list list′ : List Flip} {result result′ : List ℕ} {v : ℕ} → length result ≡ 131
+    → ReadsPacked file list result v list′ result′ → numberIn v ≢ 0 → (list′ ≡ list) × (result′ ≡ result)
 refused-read-from-c {result = result} long p some =
     let (reads, after) = p .promised in
     let same = ap (λ (x : reading.Returned). x .number) (read-unpacks long p ∙ sym (reads .numbers)) in

@@ -10,7 +10,10 @@ flipcut-build-spec =
     tie.close
     (tie.spec
     (λ c κs. search needs)
-    (λ c κs. let built = c .before .before .before in rw (built .build .ensures .answers) (build-fits (record { byte = λ i. omega (arith, built .before .before .before .before .shared-slice-known .given i) }) _ _))
+    (λ c κs.
+    let built = c .before .before .before in
+    let known = built .before .before .before .before .shared-slice-known in
+    rw (built .build .ensures .answers) (build-fits (record { byte = λ i. omega (arith, known .given i) }) _ _))
     (λ c. search needs)
     (λ c. search needs)
     (λ c. search needs))
