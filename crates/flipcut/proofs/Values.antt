@@ -1,5 +1,5 @@
 -- A value that is put into 131 numbers is the value in them (`value-put`), and the value of a file that is read has its 63 places (`read-long`).
-use mathlib.Core.Path.{_≡_, refl, sym, _∙_}
+use mathlib.Core.Path.{_≡_, refl, _∙_}
 use mathlib.Core.List.{List, [], _∷_}
 use mathlib.Core.Logic.{⊎-elim}
 use Prim.Native.Nat.{ℕ, zero, suc, _+_, _≤_, _<_}
