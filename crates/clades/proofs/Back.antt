@@ -1,0 +1,52 @@
+-- The text of a tree that shows an answer's groups reads back to that tree (`reads-back`), whose clades of names are the groups (`clade-group`, `group-clade` of Clades).
+use mathlib.Core.Path.{_≡_, refl, sym, subst}
+use mathlib.Core.List.{List, [], _∷_, List·Memᴰ, List·Memᴰ·not-nil}
+use Prim.Native.Nat.{ℕ, _^_, _≤_, _<_}
+use native.Mathlib.Omega.{arith}
+use lib.ListN.{length}
+use Rattle.taxa.specs.Sets.{_∈_, _⊆_, Disjoint, count, all}
+use Rattle.taxa.proofs.Members.{none, ⊆-refl, all-fits}
+use Rattle.taxa.proofs.Counts.{count-le}
+use Rattle.grammar.specs.Trees.{Tree, one}
+use Rattle.grammar.specs.Text.{Name}
+use Rattle.grammar.specs.Columns.{Bytes, names, allNames, clades, columns, allColumns}
+use Rattle.grammar.specs.Limits.{seen, taxa, depth, Within}
+use Rattle.grammar.specs.Limits as limits
+use Rattle.grammar.specs.Verdict.{accepted}
+use Rattle.grammar.specs.Clerk.{outcome}
+use Rattle.grammar.specs.Writer.{written}
+use Rattle.grammar.proofs.Lists.{seen-most}
+use Rattle.grammar.proofs.Tallies.{between, columns-few}
+use Rattle.grammar.proofs.Writing.{Named}
+use Rattle.grammar.proofs.Reading.{written-reads}
+use Rattle.clades.specs.Shows.{Differ, Laminar, Shows}
+use Rattle.clades.proofs.Clades.{Names, shown-names}
+use Rattle.clades.proofs.Sizes.{sizes, distinct}
+
+-- Names for taxa: each is a name of at most 32 bytes.
+pub record NamesFor (name : ℕ → Bytes) (A : ℕ) : Type 0 where
+  pub is-name : {i : ℕ} → i ∈ A → Name (name i)
+  pub short : {i : ℕ} → i ∈ A → length (name i) ≤ 32
+  pub differ : Differ name A
+
+module _ {name : ℕ → Bytes} {gs : List ℕ} {n : ℕ} {t : Tree} (few : n ≤ 64) (lam : Laminar gs) (list : NamesFor name (all n)) (shows : Shows name gs (all n) t) where
+  nothing : Names name 0 []
+  nothing = record { has = λ x. absurd (none x); only = λ l. absurd (List·Memᴰ·not-nil l) }
+
+  within : Within (one t)
+  unfolding names allColumns depth
+  within =
+      let z = sizes lam shows (all-fits 64 few) in record {
+        short = λ m l. let (i, x, e) = shown-names shows .only l in subst (λ (w : Bytes). length w ≤ 32) (sym e) (list .short x);
+        once = limits.first (distinct lam (list .differ) shows (⊆-refl (all n)) nothing (record { sub = λ x. absurd (none x) }) (record { off = λ x. absurd (none x) }));
+        few = omega (arith, seen-most [] (names t), z .all-names, count-le 64 (all n));
+        columns = omega (arith, columns-few t, z .brackets, count-le 64 (all n));
+        nested = omega (arith, z .deep, count-le 64 (all n));
+      }
+
+  pub named : Named (allNames (one t))
+  unfolding names
+  named m l = let (i, x, e) = shown-names shows .only l in subst Name (sym e) (list .is-name x)
+
+  pub reads-back : outcome (written (one t)) ≡ accepted (one t) (between (taxa (one t)) (allColumns (one t)))
+  reads-back = written-reads (one t) named within
