@@ -91,25 +91,32 @@ void short_texts(Tally& tally, gen::Random& random, std::size_t longest, Bytes& 
     }
 }
 
-// Every other byte at every place, and every cut: of a small text, of names as long as may be among blanks, of as many names
-// as may be, the deepest tree, and one more bracket than may be.
-void every_prefix_and_byte(Tally& tally, gen::Random& random) {
-    const std::string long_name = std::string(31, 'x');
-    for (const std::string& text :
-         {std::string("((A,B),C);"), "( " + long_name + "y,(A," + long_name + "z )\t);\r\n(A,\n" + long_name + ") ;",
-          "(" + many_names(0, 63) + ");((063,062),000);", comb(64) + ";", std::string(64, '(') + "(A"}) {
-        for (const Bytes& other : gen::prefixes(bytes_of(text))) compare(tally, random, with_room(other));
-        for (const Bytes& other : gen::all_byte_changes(bytes_of(text))) compare(tally, random, with_room(other));
-    }
-    // As many columns as may be, where places need more than a byte.
-    const Bytes columns = bytes_of(many_columns(256));
-    for (const Bytes& other : gen::prefixes(columns)) compare(tally, random, with_room(other));
-    for (std::size_t at = 0; at < columns.size(); ++at)
-        for (char byte : {'(', ')', ',', ';', 'D', ' ', '*'}) {
-            Bytes other = columns;
+// Every other byte at every place.
+void every_byte(Tally& tally, gen::Random& random, const std::string& text) {
+    for (const Bytes& other : gen::all_byte_changes(bytes_of(text))) compare(tally, random, with_room(other));
+}
+
+// The bytes that matter, at every place.
+void every_telling_byte(Tally& tally, gen::Random& random, const std::string& text) {
+    for (std::size_t at = 0; at < text.size(); ++at)
+        for (char byte : {'(', ')', ',', ';', 'D', ' ', '*', '\0', '\x80'}) {
+            Bytes other = bytes_of(text);
             other[at] = static_cast<std::uint8_t>(byte);
             compare(tally, random, with_room(other));
         }
+}
+
+// A small text, names as long as may be among blanks, and one bracket more than may be; then as many names as may be, the
+// deepest tree, and as many columns as may be, where places need more than a byte.
+void every_prefix_and_byte(Tally& tally, gen::Random& random) {
+    const std::string x31(31, 'x');
+    const std::string small = "((A,B),C);", deep = std::string(65, '(') + "A";
+    const std::string spaced = "( " + x31 + "y,(A," + x31 + "z )\t);\r\n(A,\n" + x31 + ") ;";
+    const std::string names = "(" + many_names(0, 63) + ");((063,062),000);", columns = many_columns(256);
+    for (const std::string& text : {small, spaced, deep, names, comb(64) + ";", columns})
+        for (const Bytes& other : gen::prefixes(bytes_of(text))) compare(tally, random, with_room(other));
+    for (const std::string& text : {small, spaced, deep}) every_byte(tally, random, text);
+    for (const std::string& text : {names, comb(64) + ";", columns}) every_telling_byte(tally, random, text);
 }
 
 // Every length of each output, up to a few bytes more than it needs.
@@ -164,12 +171,12 @@ void random_cases(Tally& tally, gen::Random& random, unsigned long count) {
 }  // namespace
 
 int main(int argc, char** argv) {
-    const TrialWords words = trial_words(argc, argv, 8000);
+    const TrialWords words = trial_words(argc, argv, 15000);
     Tally tally("newick", words.folder);
     gen::Random random(9);
     worked_cases(tally, random);
     Bytes text;
-    short_texts(tally, random, 10, text);
+    short_texts(tally, random, 9, text);
     every_prefix_and_byte(tally, random);
     every_room(tally, random);
     largest_lengths(tally, random);

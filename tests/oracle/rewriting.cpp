@@ -76,12 +76,17 @@ bool can_go_on(const Bytes& start) {
     return is_trees(start) || is_trees(followed_by(start, closing)) || is_trees(followed_by(start, "n" + closing));
 }
 
-// "at the first byte that cannot stand there or the file's end"
+// "at the first byte that cannot stand there or the file's end": what can go on had a beginning that could, so it is found by
+// halves.
 std::optional<std::size_t> first_wrong_byte(const Bytes& text) {
-    for (std::size_t length = 1; length <= text.size(); ++length)
-        if (!can_go_on(Bytes(text.begin(), text.begin() + static_cast<std::ptrdiff_t>(length)))) return length - 1;
-    if (is_trees(text)) return std::nullopt;
-    return text.size();
+    std::size_t good = 0, wrong = text.size() + 1;  // lengths of beginnings
+    while (wrong - good > 1) {
+        const std::size_t middle = good + (wrong - good) / 2;
+        const Bytes start(text.begin(), text.begin() + static_cast<std::ptrdiff_t>(middle));
+        (can_go_on(start) ? good : wrong) = middle;
+    }
+    if (good < text.size()) return good;
+    return is_trees(text) ? std::nullopt : std::optional<std::size_t>(text.size());
 }
 
 using Fault = std::pair<std::size_t, unsigned>;  // place and number: the least one counts
