@@ -143,6 +143,14 @@ void largest_lengths(Tally& tally, gen::Random& random) {
     room_cases(tally, random, largest.text);
 }
 
+// Places that need more than two bytes, and than three: a million bytes of trees that give no column, 17 million of blanks.
+void long_texts(Tally& tally, gen::Random& random) {
+    std::string trees;
+    while (trees.size() < 1000000) trees += "(A,B);C;\n(B,D,A,C); ";
+    for (const std::string& start : {trees, std::string(17000000, ' ')})
+        for (const char* end : {"", "((A,B),C);", "(A,A"}) compare(tally, random, with_room(bytes_of(start + end)));
+}
+
 // An empty text, and empty outputs; for this text nothing is long enough that is empty.
 void unusual_cases(Tally& tally, gen::Random& random) {
     const NewickCase whole = with_room(bytes_of("(A,(B,C));"));
@@ -180,6 +188,7 @@ int main(int argc, char** argv) {
     every_prefix_and_byte(tally, random);
     every_room(tally, random);
     largest_lengths(tally, random);
+    long_texts(tally, random);
     unusual_cases(tally, random);
     random_cases(tally, random, words.count);
     tally.finish({0, 10, 16, 17, 18, 19, 20});

@@ -100,10 +100,10 @@ int main(int argc, char** argv) {
     short_texts(tally, 6, text);
     for (unsigned long k = 0; k < words.count; ++k) {
         const Bytes trees = gen::random_trees(random);
-        if (trees.size() < 1000) compare(tally, trees);
+        compare(tally, trees);
         compare(tally, gen::damaged_text(random, trees));
         compare(tally, gen::wandering_text(random));
-        if (k % 10 == 0) compare(tally, gen::lavish_trees(random));
+        if (k % 4 == 0) compare(tally, gen::lavish_trees(random));
         written_case(tally, random);
     }
     tally.finish({0, 16, 17, 18, 19, 20});

@@ -52,6 +52,8 @@ std::multiset<Clade> clades_read(const Tally& tally, const Bytes& text) {
     if (flipcut_refused(packed)) tally.differ("what is written is " + oracle::text(refusal_of(packed)), text);
     matrix_file.resize(flipcut_written(packed));
     names_file.resize(flipcut_names_written(packed));
+    if (oracle::check(matrix_file).refusal.refused() || oracle::check_names(names_file).refusal.refused())
+        tally.differ("what is written is read to no matrix, or to no name list", text);
     const oracle::Matrix matrix = oracle::read_matrix(matrix_file);
     const std::vector<std::string> names = oracle::read_names(names_file);
     std::multiset<Clade> clades;

@@ -241,6 +241,7 @@ std::vector<WorkedTree> worked_trees() {
         {"70 names", three, numbered_list(70), 0, {15, 0}, ""},
         {"a name more", tree_file(2, {3}), names, 9, {15, 0}, ""},
         {"a wrong name, and not as many", three, bad_names, 0, {16, 0}, ""},
+        {"a name twice, and not as many", three, hex("0100 2100 41  0100 2100 41  0000 2200"), 0, {18, 5}, ""},
         {"bytes after not as many names", three, with_byte(none, 0), 64, {8, 4}, ""},
         {"a wrong answer and a wrong name", bad_answer, bad_names, 0, {12, 16}, ""},
         {"a wrong answer and no list", bad_answer, {}, 0, {12, 16}, ""},

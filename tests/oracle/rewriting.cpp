@@ -116,6 +116,17 @@ void bracket_faults(std::vector<Fault>& faults, const Bytes& text, std::size_t e
     }
 }
 
+// Past the bracket that closes the one here: as many are closed as opened.
+std::size_t past_its_close(const Bytes& text, std::size_t open) {
+    std::size_t opened = 0, closed = 0, at = open;
+    do {
+        if (text[at] == '(') ++opened;
+        if (text[at] == ')') ++closed;
+        ++at;
+    } while (closed < opened);
+    return at;
+}
+
 // The names between two places, as taxa.
 TaxonSet taxa_between(const Bytes& text, const std::vector<std::string>& names, std::size_t first, std::size_t end) {
     TaxonSet taxa = 0;
@@ -157,11 +168,10 @@ SourceTrees trees_by_brackets(const Bytes& text) {
     trees.matrix.n = static_cast<unsigned>(trees.names.size());
     for (std::size_t open = 0; open < text.size(); ++open) {
         if (text[open] != '(' || depth_at(text, open) == 0) continue;
-        std::size_t close = open + 1, first = open, last = open;
-        while (depth_at(text, close) > depth_at(text, open)) ++close;
+        std::size_t first = open, last = open;
         while (first > 0 && text[first - 1] != ';') --first;
         while (text[last] != ';') ++last;
-        const TaxonSet ones = taxa_between(text, trees.names, open, close);
+        const TaxonSet ones = taxa_between(text, trees.names, open, past_its_close(text, open));
         trees.matrix.columns.push_back({1, ones, taxa_between(text, trees.names, first, last) & ~ones});
     }
     return trees;
