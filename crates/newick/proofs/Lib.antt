@@ -1,0 +1,3 @@
+-- Reading source trees: what is proved.
+pub mod Runs
+pub mod Names

@@ -1,0 +1,97 @@
+-- Names in a text: pieces compared byte by byte (`same-pieces`, `other-pieces`), and the number of a name as a loop finds it (`found`, `not-found`).
+use mathlib.Core.Path.{_≡_, refl, sym, ap, _∙_, subst}
+use mathlib.Core.Bool.{Bool, true, false, true≢false}
+use mathlib.Core.Logic.{⊎-elim}
+use mathlib.Core.List.{List, [], _∷_, _++_}
+use Prim.Native.Nat.{ℕ, zero, suc, _+_, _≤_, _<_}
+use native.Mathlib.Nat.{eq-or-lt-of-le}
+use native.Mathlib.Omega.{arith}
+use lib.ListN.{length, getD, take, drop, length-drop, length-append, List·getD-append}
+use lib.Seq.{length-take-le, getD-take, getD-drop, ext-getD, getD-at}
+use Rattle.grammar.specs.Columns.{Bytes}
+use Rattle.grammar.specs.Limits.{equal, number}
+use Rattle.grammar.specs.inner.Standing.{piece}
+use Rattle.grammar.proofs.Numbering.{equal-refl, equal-true}
+use Rattle.newick.specs.inner.Names.{namesIn}
+
+-- What holds of all numbers below i, and of i.
+pub one-further : (P : ℕ → Type 0) {i : ℕ} → ((j : ℕ) → j < i → P j) → P i → (j : ℕ) → j < i + 1 → P j
+one-further P before here j l = ⊎-elim (λ e. subst P (sym e) here) (before j) (eq-or-lt-of-le (omega arith))
+
+-- ---- pieces
+
+pub length-piece : (text : List ℕ) (a k : ℕ) → a + k ≤ length text → length (piece text a k) ≡ k
+length-piece text a k l = length-take-le k (drop a text) (rw length-drop (omega arith))
+
+byte-of-piece : (text : List ℕ) (a k i : ℕ) → i < k → getD (piece text a k) i 0 ≡ getD text (a + i) 0
+byte-of-piece text a k i l = getD-take k (drop a text) i 0 l ∙ getD-drop a text i 0
+
+module _ (text : List ℕ) (a b k : ℕ) where
+  pub same-pieces : a + k ≤ length text → b + k ≤ length text → ((i : ℕ) → i < k → getD text (a + i) 0 ≡ getD text (b + i) 0)
+      → true ≡ equal (piece text a k) (piece text b k)
+  same-pieces la lb e = sym (subst (λ (m : Bytes). equal (piece text a k) m ≡ true) same (equal-refl (piece text a k)))
+    where
+      same : piece text a k ≡ piece text b k
+      same = ext-getD 0 (piece text a k) (piece text b k) (length-piece text a k la ∙ sym (length-piece text b k lb)) (λ i l.
+          let m : i < k = omega (arith, length-piece text a k la) in byte-of-piece text a k i m ∙ e i m ∙ sym (byte-of-piece text b k i m))
+
+  pub other-pieces : (i : ℕ) → i < k → (getD text (a + i) 0 ≡ getD text (b + i) 0 → ⊥) → false ≡ equal (piece text a k) (piece text b k)
+  other-pieces i l n = go (equal (piece text a k) (piece text b k)) refl
+    where
+      go : (c : Bool) → equal (piece text a k) (piece text b k) ≡ c → false ≡ c
+      go false f = refl
+      go true f = absurd (n (sym (byte-of-piece text a k i l) ∙ ap (λ (m : Bytes). getD m i 0) (equal-true _ _ f) ∙ byte-of-piece text b k i l))
+
+-- Names of two sizes differ.
+pub other-size : (n m : Bytes) → (length n ≡ length m → ⊥) → false ≡ equal n m
+other-size n m d = go (equal n m) refl
+  where
+    go : (c : Bool) → equal n m ≡ c → false ≡ c
+    go false f = refl
+    go true f = absurd (d (ap (λ (l : Bytes). length l) (equal-true n m f)))
+
+-- ---- numbers
+
+number-here : (ms : List Bytes) (n : Bytes) (i : ℕ) → i < length ms → ((j : ℕ) → j < i → equal n (getD ms j []) ≡ false) → equal n (getD ms i []) ≡ true
+    → i ≡ number ms n
+unfolding number
+number-here [] n i l before e = absurd (omega arith)
+number-here (m ∷ ms) n zero l before e = rw e
+number-here (m ∷ ms) n (suc i) l before e = rw (before 0 (omega arith)) (ap suc (number-here ms n i (omega arith) (λ j k. before (suc j) (omega arith)) e))
+
+number-nowhere : (ms : List Bytes) (n : Bytes) → ((j : ℕ) → j < length ms → equal n (getD ms j []) ≡ false) → length ms ≡ number ms n
+unfolding number
+number-nowhere [] n before = refl
+number-nowhere (m ∷ ms) n before = rw (before 0 (omega arith)) (ap suc (number-nowhere ms n (λ j k. before (suc j) (omega arith))))
+
+-- ---- the names that are placed
+
+pub length-names : (text starts sizes : List ℕ) (n : ℕ) → length (namesIn text starts sizes n) ≡ n
+unfolding namesIn
+length-names text starts sizes zero = refl
+length-names text starts sizes (suc n) = length-append (namesIn text starts sizes n) _ ∙ omega (arith, length-names text starts sizes n)
+
+pub name-in : (text starts sizes : List ℕ) (n i : ℕ) → i < n → getD (namesIn text starts sizes n) i [] ≡ piece text (getD starts i 0) (getD sizes i 0)
+unfolding namesIn
+name-in text starts sizes zero i l = absurd (omega arith)
+name-in text starts sizes (suc n) i l =
+    let k = length-names text starts sizes n in
+    ⊎-elim
+    (λ e. rw e (getD-at (namesIn text starts sizes n) _ [] [] n k))
+    (λ b. List·getD-append (namesIn text starts sizes n) _ [] i (omega arith) ∙ name-in text starts sizes n i b)
+    (eq-or-lt-of-le (omega arith))
+
+module _ (text starts sizes : List ℕ) (n : ℕ) (m : Bytes) where
+  -- The first i names are others.
+  abbrev pub Others : ℕ → Type 0
+  Others i = (j : ℕ) → j < i → equal m (piece text (getD starts j 0) (getD sizes j 0)) ≡ false
+
+  pub found : (i : ℕ) → i < n → Others i → equal m (piece text (getD starts i 0) (getD sizes i 0)) ≡ true → i ≡ number (namesIn text starts sizes n) m
+  found i l o e =
+      number-here (namesIn text starts sizes n) m i (omega (arith, length-names text starts sizes n)) (λ j k. rw (name-in text starts sizes n j (omega arith)) (o j k))
+      (rw (name-in text starts sizes n i l) e)
+
+  pub not-found : Others n → n ≡ number (namesIn text starts sizes n) m
+  not-found o =
+      let k = length-names text starts sizes n in
+      sym k ∙ number-nowhere (namesIn text starts sizes n) m (λ j l. rw (name-in text starts sizes n j (omega arith)) (o j (omega arith)))

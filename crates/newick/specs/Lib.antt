@@ -1,0 +1,2 @@
+-- Reading source trees.
+pub mod inner
