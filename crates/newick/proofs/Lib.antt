@@ -1,3 +1,4 @@
 -- Reading source trees: what is proved.
 pub mod Runs
 pub mod Names
+pub mod Book

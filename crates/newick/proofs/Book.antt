@@ -1,0 +1,148 @@
+-- Each token, as the reader's lists hold what is kept of it: from a place between tokens to the next, or to a refusal.
+use mathlib.Core.Path.{_≡_, refl, sym, ap, _∙_, subst}
+use mathlib.Core.Bool.{Bool, true, false, cond, true≢false}
+use mathlib.Core.List.{List, [], _∷_, _++_, map}
+use Prim.Native.Nat.{ℕ, zero, suc, _+_, _-_, _^_, _≤_, _<_}
+use native.Mathlib.Nat.{add-zero}
+use native.Mathlib.Numerals.{add-one}
+use native.Mathlib.Omega.{arith}
+use lib.Dec.{eqb, ltb}
+use lib.ListN.{length, getD, set, take, drop, length-set, length-drop}
+use lib.Seq.{getD-set-same, getD-set-other, take-set-le, drop-set-add, take-set-lt, take-suc-set, take-add, length-take-le}
+use borrow.Author.Tests.{eqb-true, eq-eqb, ne-eqb, lt-ltb}
+use Rattle.taxa.specs.Sets.{_∪_, _∖_, within}
+use Rattle.grammar.specs.Bytes.{byte, isLetter, left, right, comma, semicolon}
+use Rattle.grammar.specs.Trees.{word, sign}
+use Rattle.grammar.specs.Verdict.{goes, fails, refused}
+use Rattle.grammar.specs.Limits.{number}
+use Rattle.grammar.specs.inner.Shape.{beginning, ended}
+use Rattle.grammar.specs.inner.Standing.{Run, piece, Standing}
+use Rattle.grammar.proofs.Standing.{opens, open-refused, closes, closes-one, closes-none, goes-to-next, next-outside, finishes, finishes-inside, names, name-refused, too-long}
+use Rattle.ledger.specs.inner.Ledger.{Ledger, Opened, unwritten, note, outcome, wrongs, keep, known}
+use Rattle.newick.specs.declared.Reading.{Reading}
+use Rattle.newick.specs.inner.Names.{Placed, namesIn}
+use Rattle.newick.specs.inner.Book.{Book, withNames, withBrackets, withColumns, bracketsIn, filledIn, ledgerIn, Bracketed, Holds, SignAt, cladePut, withName}
+use Rattle.newick.proofs.Names.{length-names}
+
+-- ---- the lists of open brackets
+
+-- A store past the first d changes none of them.
+pub brackets-kept : (index before : List ℕ) (i v w d : ℕ) → d ≤ i → bracketsIn (set index i v) (set before i w) d ≡ bracketsIn index before d
+unfolding bracketsIn
+brackets-kept index before i v w zero l = refl
+brackets-kept index before i v w (suc d) l =
+    let e = getD-set-other index i d v 0 (λ e. absurd (omega arith)) in
+    let f = getD-set-other before i d w 0 (λ e. absurd (omega arith)) in
+    rw (e, f, brackets-kept index before i v w d (omega arith))
+
+pub filled-kept : (filled : List Bool) (i : ℕ) (v : Bool) (d : ℕ) → d ≤ i → filledIn (set filled i v) d ≡ filledIn filled d
+unfolding filledIn
+filled-kept filled i v zero l = refl
+filled-kept filled i v (suc d) l = rw (getD-set-other filled i d v false (λ e. absurd (omega arith)), filled-kept filled i v d (omega arith))
+
+length-brackets : (index before : List ℕ) (d : ℕ) → length (bracketsIn index before d) ≡ d
+unfolding bracketsIn
+length-brackets index before zero = refl
+length-brackets index before (suc d) = ap suc (length-brackets index before d)
+
+-- One more.
+pub brackets-more : (index before : List ℕ) (v w d e : ℕ) → e ≡ d + 1 → d < length index → d < length before
+    → bracketsIn (set index d v) (set before d w) e ≡ record { index = v; before = w } ∷ bracketsIn index before d
+unfolding bracketsIn
+brackets-more index before v w d e q i j =
+    rw (q, add-one, getD-set-same index d v 0 i, getD-set-same before d w 0 j, brackets-kept index before d v w d (omega arith))
+
+pub filled-more : (filled : List Bool) (v : Bool) (d e : ℕ) → e ≡ d + 1 → d < length filled → filledIn (set filled d v) e ≡ v ∷ filledIn filled d
+unfolding filledIn
+filled-more filled v d e q l = rw (q, add-one, getD-set-same filled d v false l, filled-kept filled d v d (omega arith))
+
+-- The last.
+pub brackets-last : (index before : List ℕ) (d e : ℕ) → d ≡ e + 1
+    → bracketsIn index before d ≡ record { index = getD index e 0; before = getD before e 0 } ∷ bracketsIn index before e
+unfolding bracketsIn
+brackets-last index before d e q = rw (q, add-one)
+
+pub filled-last : (filled : List Bool) (d e : ℕ) → d ≡ e + 1 → filledIn filled d ≡ getD filled e false ∷ filledIn filled e
+unfolding filledIn
+filled-last filled d e q = rw (q, add-one)
+
+-- ---- the columns
+
+-- A clade put after the columns leaves them.
+pub columns-kept : (ones : List ℕ) (columns i clade : ℕ) → take columns (cladePut ones columns i clade) ≡ take columns ones
+unfolding cladePut
+columns-kept ones columns zero clade = refl
+columns-kept ones columns (suc i) clade = take-set-le columns ones (columns + i) clade (omega arith)
+
+pub length-put : (ones : List ℕ) (columns i clade : ℕ) → length (cladePut ones columns i clade) ≡ length ones
+unfolding cladePut
+length-put ones columns zero clade = refl
+length-put ones columns (suc i) clade = length-set ones (columns + i) clade
+
+not-first : (i : ℕ) → eqb (suc i) 0 ≡ false
+not-first i = ne-eqb (suc i) 0 (λ e. absurd (omega arith))
+
+-- .. as one clade more,
+pub clades-more : (ones : List ℕ) (columns opened : ℕ) → columns + opened ≤ length ones
+    → take opened (drop columns (cladePut ones columns opened 0))
+    ≡ cond (eqb opened 0) (take (opened - 1) (drop columns ones)) (take (opened - 1) (drop columns ones) ++ 0 ∷ [])
+unfolding cladePut
+clades-more ones columns zero l = refl
+clades-more ones columns (suc i) l =
+    let room : i < length (drop columns ones) = omega (arith, length-drop columns ones) in
+    rw (not-first i, drop-set-add columns ones i 0) (take-suc-set (drop columns ones) i 0 room)
+
+-- .. or in its place among the clades.
+pub clade-set : (ones : List ℕ) (columns opened i clade : ℕ) → i < opened
+    → take (opened - 1) (drop columns (cladePut ones columns i clade))
+    ≡ cond (eqb i 0) (take (opened - 1) (drop columns ones)) (set (take (opened - 1) (drop columns ones)) (i - 1) clade)
+unfolding cladePut
+clade-set ones columns opened zero clade l = refl
+clade-set ones columns opened (suc i) clade l =
+    rw (not-first i, drop-set-add columns ones i clade) (take-set-lt (opened - 1) (drop columns ones) i clade (omega arith))
+
+-- ---- the tokens
+
+module _ {text : List ℕ} {k : Book} {r : Reading} (h : Holds text k r) where
+  -- The reader stands after a subtree, or where one must begin.
+  after-subtree : r .ended ≡ true → Standing note unwritten text (r .at) ended (r .finished) (filledIn (k .filled) (r .depth)) (ledgerIn text k r)
+  after-subtree e = rw e at (h .stands)
+
+  at-subtree : r .ended ≡ false → Standing note unwritten text (r .at) beginning (r .finished) (filledIn (k .filled) (r .depth)) (ledgerIn text k r)
+  at-subtree e = rw e at (h .stands)
+
+  -- A comma.
+  module _ {next : ℕ} (subtree : r .ended ≡ true) (s : SignAt text (r .at) (byte comma) next) where
+    pub comma-outside : r .depth ≡ 0 → outcome text ≡ refused 16 (r .at)
+    unfolding filledIn
+    comma-outside e = next-outside (rw e at (after-subtree subtree)) (s .inside) (s .is)
+
+    pub comma-taken : (last : ℕ) → r .depth ≡ last + 1 → Holds text (withBrackets k (k .ones) (k .index) (k .before) (set (k .filled) last true)) (record {
+      at = next;
+      ended = false;
+      finished = r .finished;
+      taxa = r .taxa;
+      columns = r .columns;
+      here = r .here;
+      opened = r .opened;
+      depth = r .depth;
+    })
+    unfolding wrongs keep
+    comma-taken last e =
+        let b = h .bracketed in
+        let stands = rw (filled-last (k .filled) (r .depth) last e) at (after-subtree subtree) in
+        record {
+          placed = h .placed;
+          bracketed = record {
+            ones-room = b .ones-room;
+            index-room = b .index-room;
+            before-room = b .before-room;
+            filled-room = length-set (k .filled) last true ∙ b .filled-room;
+            nested = b .nested;
+            columns-fit = b .columns-fit;
+            clades-fit = b .clades-fit;
+            has-opened = b .has-opened;
+          };
+          zeros-room = h .zeros-room;
+          stands = rw (← s .after, filled-more (k .filled) true last (r .depth) e (omega (arith, b .filled-room, b .nested))) (goes-to-next stands (s .inside) (s .is) refl);
+        }
