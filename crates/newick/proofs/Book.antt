@@ -82,6 +82,9 @@ length-put ones columns (suc i) clade = length-set ones (columns + i) clade
 not-first : (i : ℕ) → eqb (suc i) 0 ≡ false
 not-first i = ne-eqb (suc i) 0 (λ e. absurd (omega arith))
 
+one-less : (i : ℕ) → suc i - 1 ≡ i
+one-less i = omega arith
+
 -- .. as one clade more,
 pub clades-more : (ones : List ℕ) (columns opened : ℕ) → columns + opened ≤ length ones
     → take opened (drop columns (cladePut ones columns opened 0))
@@ -90,7 +93,7 @@ unfolding cladePut
 clades-more ones columns zero l = refl
 clades-more ones columns (suc i) l =
     let room : i < length (drop columns ones) = omega (arith, length-drop columns ones) in
-    rw (not-first i, drop-set-add columns ones i 0) (take-suc-set (drop columns ones) i 0 room)
+    rw (not-first i, one-less i, drop-set-add columns ones i 0) (take-suc-set (drop columns ones) i 0 room)
 
 -- .. or in its place among the clades.
 pub clade-set : (ones : List ℕ) (columns opened i clade : ℕ) → i < opened
@@ -99,7 +102,7 @@ pub clade-set : (ones : List ℕ) (columns opened i clade : ℕ) → i < opened
 unfolding cladePut
 clade-set ones columns opened zero clade l = refl
 clade-set ones columns opened (suc i) clade l =
-    rw (not-first i, drop-set-add columns ones i clade) (take-set-lt (opened - 1) (drop columns ones) i clade (omega arith))
+    rw (not-first i, one-less i, drop-set-add columns ones i clade) (take-set-lt (opened - 1) (drop columns ones) i clade (omega arith))
 
 -- ---- the tokens
 
