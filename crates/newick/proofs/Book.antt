@@ -9,20 +9,21 @@ use native.Mathlib.Omega.{arith}
 use lib.Dec.{eqb, ltb}
 use lib.ListN.{length, getD, set, take, drop, length-set, length-drop}
 use lib.Seq.{getD-set-same, getD-set-other, take-set-le, drop-set-add, take-set-lt, take-suc-set, take-add, length-take-le}
-use borrow.Author.Tests.{eqb-true, eq-eqb, ne-eqb, lt-ltb}
+use borrow.Author.Tests.{eqb-true, eq-eqb, ne-eqb, lt-ltb, le-ltb}
 use Rattle.taxa.specs.Sets.{_∪_, _∖_, within}
 use Rattle.grammar.specs.Bytes.{byte, isLetter, left, right, comma, semicolon}
 use Rattle.grammar.specs.Trees.{word, sign}
 use Rattle.grammar.specs.Verdict.{goes, fails, refused}
+use Rattle.grammar.specs.Columns.{Bytes}
 use Rattle.grammar.specs.Limits.{number}
 use Rattle.grammar.specs.inner.Shape.{beginning, ended}
 use Rattle.grammar.specs.inner.Standing.{Run, piece, Standing}
 use Rattle.grammar.proofs.Standing.{opens, open-refused, closes, closes-one, closes-none, goes-to-next, next-outside, finishes, finishes-inside, names, name-refused, too-long}
-use Rattle.ledger.specs.inner.Ledger.{Ledger, Opened, unwritten, note, outcome, wrongs, keep, known}
+use Rattle.ledger.specs.inner.Ledger.{Ledger, Opened, unwritten, note, outcome, wrongs, keep, opening, entering, known}
 use Rattle.newick.specs.declared.Reading.{Reading}
 use Rattle.newick.specs.inner.Names.{Placed, namesIn}
 use Rattle.newick.specs.inner.Book.{Book, withNames, withBrackets, withColumns, bracketsIn, filledIn, ledgerIn, Bracketed, Holds, SignAt, cladePut, withName}
-use Rattle.newick.proofs.Names.{length-names}
+use Rattle.newick.proofs.Names.{one-further, length-piece, length-names}
 
 -- ---- the lists of open brackets
 
@@ -84,6 +85,12 @@ not-first i = ne-eqb (suc i) 0 (λ e. absurd (omega arith))
 
 one-less : (i : ℕ) → suc i - 1 ≡ i
 one-less i = omega arith
+
+more-less : (i : ℕ) → i + 1 - 1 ≡ i
+more-less i = omega arith
+
+one-up : (i : ℕ) → i + 1 ≡ suc i
+one-up i = add-one
 
 -- .. as one clade more,
 pub clades-more : (ones : List ℕ) (columns opened : ℕ) → columns + opened ≤ length ones
@@ -149,3 +156,156 @@ module _ {text : List ℕ} {k : Book} {r : Reading} (h : Holds text k r) where
           zeros-room = h .zeros-room;
           stands = rw (← s .after, filled-more (k .filled) true last (r .depth) e (omega (arith, b .filled-room, b .nested))) (goes-to-next stands (s .inside) (s .is) refl);
         }
+
+  -- An opening bracket.
+  module _ {next : ℕ} (subtree : r .ended ≡ false) (s : SignAt text (r .at) (byte left) next) where
+    columns-there : length (take (r .columns) (k .ones)) ≡ r .columns
+    columns-there = length-take-le (r .columns) (k .ones) (omega (arith, h .bracketed .ones-room, h .bracketed .columns-fit))
+
+    pub left-19 : 256 < r .columns + r .opened → outcome text ≡ refused 19 (r .at)
+    unfolding wrongs
+    left-19 l = open-refused (at-subtree subtree) (s .inside) (s .is) (rw (columns-there, lt-ltb 256 (r .columns + r .opened) l))
+
+    module _ (fit : r .columns + r .opened ≤ 256) where
+      pub left-20 : r .depth ≡ 64 → outcome text ≡ refused 20 (r .at)
+      unfolding wrongs
+      left-20 e =
+          open-refused (at-subtree subtree) (s .inside) (s .is)
+          (rw (columns-there, le-ltb 256 (r .columns + r .opened) fit, length-brackets (k .index) (k .before) (r .depth), e))
+
+      pub left-taken : r .depth < 64
+          → Holds text (withBrackets k (cladePut (k .ones) (r .columns) (r .opened) 0) (set (k .index) (r .depth) (r .opened)) (set (k .before) (r .depth) (r .here)) (set (k .filled) (r .depth) false)) (record {
+        at = next;
+        ended = false;
+        finished = r .finished;
+        taxa = r .taxa;
+        columns = r .columns;
+        here = r .here;
+        opened = r .opened + 1;
+        depth = r .depth + 1;
+      })
+      unfolding wrongs keep
+      left-taken l =
+          let b = h .bracketed in
+          let few : length (take (r .columns) (k .ones)) ≡ r .columns = columns-there in
+          let goes-on : note (ledgerIn text k r) (sign left) ≡ goes (opening (ledgerIn text k r)) =
+              rw (few, le-ltb 256 (r .columns + r .opened) fit, length-brackets (k .index) (k .before) (r .depth), le-ltb 63 (r .depth) (omega arith))
+          in
+          let stands = opens (at-subtree subtree) (s .inside) (s .is) goes-on in
+          record {
+            placed = h .placed;
+            bracketed = record {
+              ones-room = length-put (k .ones) (r .columns) (r .opened) 0 ∙ b .ones-room;
+              index-room = length-set (k .index) (r .depth) (r .opened) ∙ b .index-room;
+              before-room = length-set (k .before) (r .depth) (r .here) ∙ b .before-room;
+              filled-room = length-set (k .filled) (r .depth) false ∙ b .filled-room;
+              nested = omega arith;
+              columns-fit = b .columns-fit;
+              clades-fit = omega arith;
+              has-opened = one-further (λ j. getD (set (k .index) (r .depth) (r .opened)) j 0 < r .opened + 1)
+              (λ j i. rw (getD-set-other (k .index) (r .depth) j (r .opened) 0 (λ e. absurd (omega arith))) (omega (arith, b .has-opened j i)))
+              (rw (getD-set-same (k .index) (r .depth) (r .opened) 0 (omega (arith, b .index-room))) (omega arith));
+            };
+            zeros-room = h .zeros-room;
+            stands = rw (← s .after, filled-more (k .filled) false (r .depth) (r .depth + 1) refl (omega (arith, b .filled-room)), columns-kept (k .ones) (r .columns) (r .opened) 0, brackets-more (k .index) (k .before) (r .opened) (r .here) (r .depth) (r .depth + 1) refl (omega (arith, b .index-room)) (omega (arith, b .before-room)), more-less (r .opened), clades-more (k .ones) (r .columns) (r .opened) (omega (arith, b .ones-room)), one-up (r .opened)) stands;
+          }
+
+  -- A closing bracket.
+  module _ {next : ℕ} (subtree : r .ended ≡ true) (s : SignAt text (r .at) (byte right) next) where
+    pub right-outside : r .depth ≡ 0 → outcome text ≡ refused 16 (r .at)
+    unfolding filledIn
+    right-outside e = closes-none (rw e at (after-subtree subtree)) (s .inside) (s .is)
+
+    module _ (last : ℕ) (e : r .depth ≡ last + 1) where
+      pub right-too-soon : getD (k .filled) last false ≡ false → outcome text ≡ refused 16 (r .at)
+      right-too-soon f = closes-one (rw (filled-last (k .filled) (r .depth) last e, f) at (after-subtree subtree)) (s .inside) (s .is)
+
+      pub right-taken : getD (k .filled) last false ≡ true
+          → Holds text (withBrackets k (cladePut (k .ones) (r .columns) (getD (k .index) last 0) (r .here ∖ getD (k .before) last 0)) (k .index) (k .before) (k .filled)) (record {
+        at = next;
+        ended = true;
+        finished = r .finished;
+        taxa = r .taxa;
+        columns = r .columns;
+        here = r .here;
+        opened = r .opened;
+        depth = last;
+      })
+      unfolding wrongs keep
+      right-taken f =
+          let b = h .bracketed in
+          let i = getD (k .index) last 0 in
+          let clade = r .here ∖ getD (k .before) last 0 in
+          let at-last = rw (filled-last (k .filled) (r .depth) last e, f, brackets-last (k .index) (k .before) (r .depth) last e) at (after-subtree subtree) in
+          record {
+            placed = h .placed;
+            bracketed = record {
+              ones-room = length-put (k .ones) (r .columns) i clade ∙ b .ones-room;
+              index-room = b .index-room;
+              before-room = b .before-room;
+              filled-room = b .filled-room;
+              nested = omega (arith, b .nested);
+              columns-fit = b .columns-fit;
+              clades-fit = b .clades-fit;
+              has-opened = λ j l. b .has-opened j (omega arith);
+            };
+            zeros-room = h .zeros-room;
+            stands = rw (← s .after, columns-kept (k .ones) (r .columns) i clade, clade-set (k .ones) (r .columns) (r .opened) i clade (b .has-opened last (omega arith)))
+            (closes at-last (s .inside) (s .is) refl);
+          }
+
+  -- A semicolon.
+  module _ {next : ℕ} (subtree : r .ended ≡ true) (s : SignAt text (r .at) (byte semicolon) next) where
+    pub semicolon-inside : 0 < r .depth → outcome text ≡ refused 16 (r .at)
+    semicolon-inside l =
+        finishes-inside (rw (filled-last (k .filled) (r .depth) (r .depth - 1) (omega arith)) at (after-subtree subtree)) (s .inside) (s .is)
+
+    pub semicolon-taken : (zeros : List ℕ) (end : ℕ) → r .depth ≡ 0 → end ≡ r .columns + (r .opened - 1) → length zeros ≡ 256
+        → take end zeros ≡ take (r .columns) (k .zeros) ++ map (λ c. r .here ∖ c) (take (end - r .columns) (drop (r .columns) (k .ones)))
+        → Holds text (withColumns k (k .ones) zeros) (record {
+      at = next;
+      ended = false;
+      finished = true;
+      taxa = r .taxa;
+      columns = end;
+      here = 0;
+      opened = 0;
+      depth = 0;
+    })
+    unfolding wrongs keep filledIn bracketsIn
+    semicolon-taken zeros end e f room new =
+        let b = h .bracketed in
+        let size : end - r .columns ≡ r .opened - 1 = omega arith in
+        record {
+          placed = h .placed;
+          bracketed = record {
+            ones-room = b .ones-room;
+            index-room = b .index-room;
+            before-room = b .before-room;
+            filled-room = b .filled-room;
+            nested = omega arith;
+            columns-fit = omega (arith, b .columns-fit, b .clades-fit);
+            clades-fit = omega (arith, b .columns-fit, b .clades-fit);
+            has-opened = λ j l. absurd (omega arith);
+          };
+          zeros-room = room;
+          stands = rw (← s .after, new, size, f, take-add (r .columns) (r .opened - 1) (k .ones)) (finishes (rw e at (after-subtree subtree)) (s .inside) (s .is) refl);
+        }
+
+  -- A name.
+  module _ (subtree : r .ended ≡ false) (end : ℕ) (run : Run isLetter text (r .at) end) where
+    pub name-17 : 32 < end - r .at → outcome text ≡ refused 17 (r .at + 32)
+    name-17 l = too-long (at-subtree subtree) run l
+
+    abbrev read : Bytes
+    read = piece text (r .at) (end - r .at)
+
+    abbrev taxa : List Bytes
+    taxa = namesIn text (k .starts) (k .sizes) (r .taxa)
+
+    module _ (some : r .at < end) (short : end - r .at ≤ 32) (i : ℕ) (e : i ≡ number taxa read) where
+      size : length read ≡ end - r .at
+      size = length-piece text (r .at) (end - r .at) (omega (arith, run .within))
+
+      here-18 : (b : Bool) → i < r .taxa → within (2 ^ i) (r .here) ≡ b → note (ledgerIn text k r) (word read) ≡ cond b (fails 18) (goes (entering (ledgerIn text k r) read))
+      here-18 b l w = ?
