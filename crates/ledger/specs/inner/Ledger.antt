@@ -22,7 +22,8 @@ pub record Ledger : Type 0 where
   pub taxa : List Bytes
   pub ones : List ℕ
   pub zeros : List ℕ
-  -- Of the tree: its names, the open brackets, the last first, how many brackets have opened, and the clade of each but the first, by opening, 0 while it is open.
+  -- Of the tree: its names, the open brackets, the last first, how many brackets have opened, and the clades of these but the first, by opening,
+  -- 0 while they are open.
   pub here : ℕ
   pub brackets : List Opened
   pub opened : ℕ
