@@ -84,7 +84,7 @@ module _ {x : Tally} (h : Orderly x) where
   unfolding setOf
   tree-finished = same-ledger refl (simp (map-append, map-map)) (simp (map-append, map-map)) refl refl refl refl
 
-  kept : (w : Token) → keep (ledgerOf x) w ≡ ledgerOf (clerk.keep x w)
+  pub kept : (w : Token) → keep (ledgerOf x) w ≡ ledgerOf (clerk.keep x w)
   unfolding keep clerk.keep
   kept (word n) = entered n
   kept (sign left) = bracket-opened
@@ -100,7 +100,7 @@ module _ {x : Tally} (h : Orderly x) where
   name-wrongs n true e = rw (bit-in (isIn-mem n (x .taxa) e) (h .here), le-ltb 64 (length (x .taxa)) (h .few))
   name-wrongs n false e = rw (not-in n (h .here) e, length-append, add-one, leb·suc-suc 64 (length (x .taxa)))
 
-  same-wrongs : (w : Token) → wrongs (ledgerOf x) w ≡ clerk.wrongs x w
+  pub same-wrongs : (w : Token) → wrongs (ledgerOf x) w ≡ clerk.wrongs x w
   unfolding wrongs clerk.wrongs seen
   same-wrongs (word n) = rw (known-in (x .taxa) n) (ap (cond (ltb 32 (length n)) (17 ∷ [])) (name-wrongs n (isIn n (x .taxa)) refl))
   same-wrongs (sign left) = simp length-map
