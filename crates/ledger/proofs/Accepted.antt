@@ -1,12 +1,13 @@
 -- What is accepted has taxa, names and columns that are legal (`accepted-legal`).
-use mathlib.Core.Path.{_≡_, refl, sym, subst}
+use mathlib.Core.Path.{_≡_, refl}
 use mathlib.Core.Bool.{Bool, true, false, cond}
 use mathlib.Core.Logic.{_⊎_, inl, inr, ⊎-elim}
-use mathlib.Core.List.{List, [], _∷_, _++_, List·Memᴰ, List·Memᴰ·head, List·Memᴰ·tail, List·Memᴰ·not-nil, List·Memᴰ·append-cases, List·Memᴰ·eq-of-singleton, Memᴰ·append-right}
+use mathlib.Core.List.{List, [], _∷_, _++_, List·Memᴰ, List·Memᴰ·head, List·Memᴰ·tail, List·Memᴰ·not-nil}
+use mathlib.Core.List.{List·Memᴰ·append-cases, List·Memᴰ·eq-of-singleton, Memᴰ·append-right}
 use Prim.Native.Nat.{ℕ, _≤_, _<_}
 use native.Mathlib.Omega.{arith}
 use lib.ListN.{length}
-use Rattle.taxa.specs.Sets.{_⊆_, _∩_, _∖_, all}
+use Rattle.taxa.specs.Sets.{_⊆_, _∩_, all}
 use Rattle.taxa.proofs.Members.{in∖, disjoint-∩, ⊆-trans, ∖-⊆}
 use Rattle.grammar.specs.Trees.{Tree, Trees, leaf, inner, one, then}
 use Rattle.grammar.specs.Columns.{Bytes, Column, names, allNames}
@@ -18,7 +19,6 @@ use Rattle.grammar.proofs.Reading.{reads-only}
 use Rattle.grammar.proofs.Writing.{Named, spelt-names}
 use Rattle.ledger.specs.Sets.{setOf, onesOf, zerosOf}
 use Rattle.ledger.proofs.Sets.{Among, set-known}
-use Rattle.ledger.proofs.Orderly.{Orderly}
 use Rattle.ledger.proofs.Outcomes.{accepted-orderly}
 
 -- A column's 1-set and 0-set are of the taxa, and no taxon is in both.

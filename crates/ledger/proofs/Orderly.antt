@@ -1,12 +1,13 @@
 -- What holds of the clerk's tally while he reads (`Orderly`), after each token that he takes (`orderly`).
-use mathlib.Core.Path.{_≡_, refl, sym, ap, _∙_, subst}
+use mathlib.Core.Path.{_≡_, refl}
 use mathlib.Core.Bool.{Bool, true, false, cond}
 use mathlib.Core.Logic.{_⊎_, inl, inr, ⊎-elim}
-use mathlib.Core.List.{List, [], _∷_, _++_, map, tail, List·Memᴰ, List·Memᴰ·head, List·Memᴰ·tail, List·Memᴰ·not-nil, List·Memᴰ·cases-cons, List·Memᴰ·append-cases, List·Memᴰ·eq-of-singleton, Memᴰ·append-left, Memᴰ·append-right, Memᴰ·of-map}
-use Prim.Native.Nat.{ℕ, zero, suc, _+_, _≤_}
+use mathlib.Core.List.{List, [], _∷_, tail, List·Memᴰ, List·Memᴰ·head, List·Memᴰ·tail, List·Memᴰ·not-nil}
+use mathlib.Core.List.{List·Memᴰ·cases-cons, List·Memᴰ·append-cases, List·Memᴰ·eq-of-singleton, Memᴰ·append-left, Memᴰ·of-map}
+use Prim.Native.Nat.{ℕ, zero, suc, _≤_}
 use native.Mathlib.Omega.{arith}
 use lib.Dec.{ltb}
-use lib.ListN.{length, set, drop, length-append}
+use lib.ListN.{length, set, length-append}
 use borrow.Author.Tests.{ltb-false}
 use Rattle.grammar.specs.Bytes.{left, right, comma, semicolon}
 use Rattle.grammar.specs.Trees.{Token, word, sign}
@@ -38,14 +39,17 @@ orderly-start = record {
 
 -- ---- lists
 
-of-set {ℓ} : {A : Type ℓ} {a b : A} (l : List A) (i : ℕ) → List·Memᴰ a (set l i b) → (a ≡ b) ⊎ List·Memᴰ a l
-of-set [] i m = inr m
-of-set (c ∷ l) zero m = ⊎-elim inl (λ h. inr (List·Memᴰ·tail h)) (List·Memᴰ·cases-cons m)
-of-set (c ∷ l) (suc i) m = ⊎-elim (λ e. inr (List·Memᴰ·head e)) (λ h. ⊎-elim inl (λ g. inr (List·Memᴰ·tail g)) (of-set l i h)) (List·Memᴰ·cases-cons m)
+in-changed {ℓ} : {A : Type ℓ} {a b : A} (l : List A) (i : ℕ) → List·Memᴰ a (set l i b) → (a ≡ b) ⊎ List·Memᴰ a l
+in-changed [] i m = inr m
+in-changed (c ∷ l) zero m = ⊎-elim inl (λ h. inr (List·Memᴰ·tail h)) (List·Memᴰ·cases-cons m)
+in-changed (c ∷ l) (suc i) m = ⊎-elim (λ e. inr (List·Memᴰ·head e)) (λ h. ⊎-elim inl (λ g. inr (List·Memᴰ·tail g)) (in-changed l i h)) (List·Memᴰ·cases-cons m)
 
 pub in-tail {ℓ} : {A : Type ℓ} {a : A} (l : List A) → List·Memᴰ a (tail l) → List·Memᴰ a l
 in-tail [] m = m
 in-tail (b ∷ l) m = List·Memᴰ·tail m
+
+filled : {A : Type 0} {r : ℕ} {rs : List ℕ} → r ∷ rs ≡ [] → A
+filled e = let z : _≡_ {A = ℕ} 0 1 = cc in absurd (omega arith)
 
 -- ---- tokens
 
@@ -67,8 +71,11 @@ module _ {x : Tally} (h : Orderly x) where
     here = h .here;
     once = h .once;
     brackets = λ o m. ⊎-elim (λ e. rw e (omega arith)) (h .brackets o) (List·Memᴰ·cases-cons m);
-    clades = λ c m. ⊎-elim (h .clades c) (λ k n l. let e = List·Memᴰ·eq-of-singleton k in absurd (List·Memᴰ·not-nil (rw e at l))) (List·Memᴰ·append-cases (x .clades) m);
+    clades = λ c m. ⊎-elim (h .clades c) (λ k. none (List·Memᴰ·eq-of-singleton k)) (List·Memᴰ·append-cases (x .clades) m);
   }
+    where
+      none : {c : List Bytes} → c ≡ [] → Among (x .here) c
+      none e n l = absurd (List·Memᴰ·not-nil (rw e at l))
 
   without-bracket : (os : List Opened) → ((o : Opened) → List·Memᴰ o os → o .names ≤ length (x .here)) → Orderly (closed x os)
   without-bracket [] b = h
@@ -78,16 +85,20 @@ module _ {x : Tally} (h : Orderly x) where
     here = h .here;
     once = h .once;
     brackets = λ q m. b q (List·Memᴰ·tail m);
-    clades = λ c m. ⊎-elim (λ e n l. among-drop (o .names) (x .here) n (rw e at l)) (h .clades c) (of-set (x .clades) (o .index) m);
+    clades = λ c m. ⊎-elim (λ e n l. among-drop (o .names) (x .here) n (rw e at l)) (h .clades c) (in-changed (x .clades) (o .index) m);
   }
 
-  column-of : {c : Column} → (d : List Bytes) × List·Memᴰ d (tail (x .clades)) × (record { ones = d; tree = x .here } ≡ c) → Among (x .taxa) (c .tree) × Among (c .tree) (c .ones)
-  column-of (d, m, e) = rw (← e) (h .here, h .clades d (in-tail (x .clades) m))
+  -- The column of a clade.
+  abbrev columnOf : List Bytes → Column
+  columnOf c = record { ones = c; tree = x .here }
+
+  of-clade : {c : Column} → (d : List Bytes) × List·Memᴰ d (tail (x .clades)) × (columnOf d ≡ c) → Among (x .taxa) (c .tree) × Among (c .tree) (c .ones)
+  of-clade (d, m, e) = rw (← e) (h .here, h .clades d (in-tail (x .clades) m))
 
   with-tree : Orderly (finished x)
   with-tree = record {
     few = h .few;
-    columns = λ c m. ⊎-elim (h .columns c) (λ k. column-of (Memᴰ·of-map (λ d. record { ones = d; tree = x .here }) (tail (x .clades)) k)) (List·Memᴰ·append-cases (x .columns) m);
+    columns = λ c m. ⊎-elim (h .columns c) (λ k. of-clade (Memᴰ·of-map columnOf (tail (x .clades)) k)) (List·Memᴰ·append-cases (x .columns) m);
     here = λ n m. absurd (List·Memᴰ·not-nil m);
     once = end;
     brackets = λ o m. absurd (List·Memᴰ·not-nil m);
@@ -98,10 +109,11 @@ module _ {x : Tally} (h : Orderly x) where
   unfolding wrongs keep
   orderly (word n) e = go (ltb 32 (length n)) (isIn n (x .here)) (ltb 64 (length (seen (x .taxa) (n ∷ [])))) refl refl e
     where
-      go : (a b c : Bool) → isIn n (x .here) ≡ b → ltb 64 (length (seen (x .taxa) (n ∷ []))) ≡ c → _≡_ {A = List ℕ} (cond a (17 ∷ []) (cond b (18 ∷ []) (cond c (19 ∷ []) []))) [] → Orderly (name x n)
-      go true b c f g o = let z : _≡_ {A = ℕ} 0 1 = cc in absurd (omega arith)
-      go false true c f g o = let z : _≡_ {A = ℕ} 0 1 = cc in absurd (omega arith)
-      go false false true f g o = let z : _≡_ {A = ℕ} 0 1 = cc in absurd (omega arith)
+      go : (a b c : Bool) → isIn n (x .here) ≡ b → ltb 64 (length (seen (x .taxa) (n ∷ []))) ≡ c
+          → _≡_ {A = List ℕ} (cond a (17 ∷ []) (cond b (18 ∷ []) (cond c (19 ∷ []) []))) [] → Orderly (name x n)
+      go true b c f g o = filled o
+      go false true c f g o = filled o
+      go false false true f g o = filled o
       go false false false f g o = with-name n f (ltb-false 64 (length (seen (x .taxa) (n ∷ []))) g)
   orderly (sign left) e = with-bracket
   orderly (sign right) e = without-bracket (x .brackets) (h .brackets)

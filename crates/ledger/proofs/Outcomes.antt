@@ -15,6 +15,7 @@ use Rattle.ledger.proofs.Clerks.{SameCheck, SameVerdict, go, fail, same
 use Rattle.ledger.proofs.Orderly.{Orderly, orderly-start, orderly}
 use Rattle.ledger.proofs.Steps.{kept, same-wrongs}
 
+-- The ledger is that of the tally, which is orderly.
 record Copies (x : Tally) (l : Ledger) : Type 0 where
   is-orderly : Orderly x
   same : l ≡ ledgerOf x

@@ -1,9 +1,9 @@
 -- The set of some names has their numbers (`in-set`), and stays when more taxa are seen (`set-seen`).
-use mathlib.Core.Path.{_≡_, refl, sym, ap, _∙_, subst}
+use mathlib.Core.Path.{_≡_, refl, sym, ap, _∙_}
 use mathlib.Core.Bool.{Bool, true, false, _||_, cond, true≢false}
-use mathlib.Core.Logic.{_↔_, _⊎_, inl, inr, ⊎-elim}
-use mathlib.Core.List.{List, [], _∷_, _++_, List·Memᴰ, List·Memᴰ·head, List·Memᴰ·tail, List·Memᴰ·not-nil, List·Memᴰ·cases-cons, List·Memᴰ·append-cases, Memᴰ·append-left, Memᴰ·append-right}
-use Prim.Native.Nat.{ℕ, zero, suc, _^_, _<_}
+use mathlib.Core.Logic.{_↔_, inl, inr, ⊎-elim}
+use mathlib.Core.List.{List, [], _∷_, _++_, List·Memᴰ, List·Memᴰ·head, List·Memᴰ·tail, List·Memᴰ·append-cases, Memᴰ·append-left, Memᴰ·append-right}
+use Prim.Native.Nat.{ℕ, suc, _^_}
 use native.Mathlib.Omega.{arith}
 use lib.Dec.{ltb}
 use lib.ListN.{length, getD, take, drop, take-append-drop}
@@ -11,7 +11,7 @@ use borrow.Author.Tests.{lt-ltb, le-ltb}
 use Rattle.taxa.specs.Sets.{_∈_, _∉_, _⊆_, _∪_, _∖_, within, all}
 use Rattle.taxa.proofs.Members.{none, in∪, in∖, ext, ∪-⊆, ⊆-refl, in-pow, pow-in, pow-⊆, in-all, within-⊆}
 use Rattle.grammar.specs.Columns.{Bytes}
-use Rattle.grammar.specs.Limits.{equal, isIn, seen, number, Distinct, end, next}
+use Rattle.grammar.specs.Limits.{equal, isIn, seen, number, Distinct, next}
 use Rattle.grammar.proofs.Lists.{distinct-latter}
 use Rattle.grammar.proofs.Numbering.{equal-refl, mem-isIn, isIn-mem, number-at, number-seen}
 use Rattle.ledger.specs.Sets.{setOf}
@@ -61,7 +61,8 @@ set-append taxa ns ms =
     ext (record { sub = λ h. to (of-set taxa (ns ++ ms) h) }) (∪-⊆ (set-⊆ taxa (λ n m. Memᴰ·append-left ms m)) (set-⊆ taxa (λ n m. Memᴰ·append-right ns m)))
   where
     to : {i : ℕ} → HasNumber taxa (ns ++ ms) i → i ∈ setOf taxa ns ∪ setOf taxa ms
-    to (n, m, e) = rw (← e) (in∪ (setOf taxa ns) (setOf taxa ms) .1 (⊎-elim (λ h. inl (to-set taxa h)) (λ h. inr (to-set taxa h)) (List·Memᴰ·append-cases ns m)))
+    to (n, m, e) =
+        rw (← e) (in∪ (setOf taxa ns) (setOf taxa ms) .1 (⊎-elim (λ h. inl (to-set taxa h)) (λ h. inr (to-set taxa h)) (List·Memᴰ·append-cases ns m)))
 
 -- ---- numbers
 
@@ -112,7 +113,8 @@ unfolding setOf
 set-one taxa n = let b = 2 ^ number taxa n in ext (∪-⊆ (⊆-refl b) (record { sub = λ h. absurd (none h) })) (record { sub = λ h. in∪ b 0 .1 (inl h) })
 
 -- One name more, by its number before it is seen.
-pub set-entered : {taxa : List Bytes} (ns : List Bytes) (n : Bytes) → Among taxa ns → setOf taxa ns ∪ 2 ^ number taxa n ≡ setOf (seen taxa (n ∷ [])) (ns ++ n ∷ [])
+pub set-entered : {taxa : List Bytes} (ns : List Bytes) (n : Bytes) → Among taxa ns
+    → setOf taxa ns ∪ 2 ^ number taxa n ≡ setOf (seen taxa (n ∷ [])) (ns ++ n ∷ [])
 set-entered {taxa} ns n k = let t = seen taxa (n ∷ []) in rw (set-append t ns (n ∷ []), set-one t n, number-kept taxa n, set-seen (n ∷ []) ns k)
 
 -- No two taxa have one number.

@@ -1,6 +1,5 @@
 -- The ledger of a clerk's tally: its lists of names as sets of its taxa.
 use mathlib.Core.List.{List, map, tail}
-use Prim.Native.Nat.{ℕ}
 use lib.ListN.{length, take}
 use Rattle.grammar.specs.Columns.{Bytes}
 use Rattle.grammar.specs.Clerk as clerk
