@@ -1,5 +1,4 @@
 -- Two clerks whose books are related, and stay so at every token, come to related verdicts (`same-verdict`).
-use mathlib.Core.Path.{_≡_}
 use mathlib.Core.Bool.{Bool, true, false, cond}
 use mathlib.Core.List.{List, [], _∷_}
 use mathlib.Core.Option.{Option, none, some}
@@ -9,7 +8,8 @@ use Rattle.grammar.specs.Bytes as bytes
 use Rattle.grammar.specs.Trees.{Trees, Token, word, sign}
 use Rattle.grammar.specs.Reader.{State, before, naming, after, step, Outcome, trees, ending}
 use Rattle.grammar.specs.Reader as reader
-use Rattle.grammar.specs.Verdict.{Check, goes, fails, Next, on, stop, Verdict, accepted, refused, tooLong, named, first, stepped, signed, judge, settled, verdict}
+use Rattle.grammar.specs.Verdict.{Check, goes, fails, Next, on, stop, Verdict, accepted, refused}
+use Rattle.grammar.specs.Verdict.{tooLong, named, first, stepped, signed, judge, settled, verdict}
 
 module _ {T U : Type 0} (R : T → U → Type 0) where
   -- Both go on, with related books, or both refuse by the same number.
@@ -35,7 +35,8 @@ module _ {T U : Type 0} (R : T → U → Type 0) (note : T → Token → Check T
 
   -- .. and after the name that ends, if one does.
   after-name : {x : T} {y : U} (p : ℕ) (σ : State) (f : T → Next T) (g : U → Next U) → R x y → ((x : T) (y : U) → R x y → SameNext R (f x) (g y))
-      → SameNext R (elim (named note σ x) [ goes x ↦ f x | fails r ↦ stop r (first note p σ) ]) (elim (named note′ σ y) [ goes y ↦ g y | fails r ↦ stop r (first note′ p σ) ])
+      → SameNext R (elim (named note σ x) [ goes x ↦ f x | fails r ↦ stop r (first note p σ) ])
+      (elim (named note′ σ y) [ goes y ↦ g y | fails r ↦ stop r (first note′ p σ) ])
   unfolding named
   after-name {x} {y} p (before d fs) f g r h = h x y r
   after-name {x} {y} p (naming d fs n) f g r h = after-check (first note p (naming d fs n)) f g (same x y r (word n)) h
@@ -49,7 +50,8 @@ module _ {T U : Type 0} (R : T → U → Type 0) (note : T → Token → Check T
   same-signed p none g x y r = fail
   same-signed p (some σ) g x y r = after-check p (on σ) (on σ) (same x y r (sign g)) (λ x y s. go s)
 
-  same-letter : {x : T} {y : U} (p : ℕ) (c : Bool) (o : Option State) → R x y → SameNext R (cond c (stop 17 p) (stepped note p o x)) (cond c (stop 17 p) (stepped note′ p o y))
+  same-letter : {x : T} {y : U} (p : ℕ) (c : Bool) (o : Option State) → R x y
+      → SameNext R (cond c (stop 17 p) (stepped note p o x)) (cond c (stop 17 p) (stepped note′ p o y))
   same-letter p true o r = fail
   same-letter {x} {y} p false o r = same-stepped p o x y r
 
@@ -81,7 +83,9 @@ module _ {T U : Type 0} (R : T → U → Type 0) (note : T → Token → Check T
   same-verdict [] p σ x y r = same-end p σ r
   same-verdict (b ∷ s) p σ x y r = rest (same-judge p σ b (mark b) r) (same-verdict s (suc p))
     where
-      rest : {n : Next T} {m : Next U} → SameNext R n m → ((σ : State) (x : T) (y : U) → R x y → SameVerdict R (verdict note (suc p) σ x s) (verdict note′ (suc p) σ y s))
-          → SameVerdict R (elim n [ on σ x ↦ verdict note (suc p) σ x s | stop r q ↦ refused r q ]) (elim m [ on σ y ↦ verdict note′ (suc p) σ y s | stop r q ↦ refused r q ])
+      rest : {n : Next T} {m : Next U} → SameNext R n m
+          → ((σ : State) (x : T) (y : U) → R x y → SameVerdict R (verdict note (suc p) σ x s) (verdict note′ (suc p) σ y s))
+          → SameVerdict R (elim n [ on σ x ↦ verdict note (suc p) σ x s | stop r q ↦ refused r q ])
+          (elim m [ on σ y ↦ verdict note′ (suc p) σ y s | stop r q ↦ refused r q ])
       rest (go {σ} {x} {y} r) h = h σ x y r
       rest fail h = fail

@@ -1,17 +1,17 @@
 -- The set of some names has their numbers (`in-set`), and stays when more taxa are seen (`set-seen`).
-use mathlib.Core.Path.{_≡_, refl, sym, ap, _∙_, subst}
+use mathlib.Core.Path.{_≡_, refl, sym, ap, _∙_}
 use mathlib.Core.Bool.{Bool, true, false, _||_, cond, true≢false}
-use mathlib.Core.Logic.{_↔_, _⊎_, inl, inr, ⊎-elim}
-use mathlib.Core.List.{List, [], _∷_, _++_, List·Memᴰ, List·Memᴰ·head, List·Memᴰ·tail, List·Memᴰ·not-nil, List·Memᴰ·cases-cons, List·Memᴰ·append-cases, Memᴰ·append-left, Memᴰ·append-right}
-use Prim.Native.Nat.{ℕ, zero, suc, _^_, _<_}
+use mathlib.Core.Logic.{_↔_, inl, inr, ⊎-elim}
+use mathlib.Core.List.{List, [], _∷_, _++_, List·Memᴰ, List·Memᴰ·head, List·Memᴰ·tail, List·Memᴰ·append-cases, Memᴰ·append-left, Memᴰ·append-right}
+use Prim.Native.Nat.{ℕ, suc, _^_}
 use native.Mathlib.Omega.{arith}
 use lib.Dec.{ltb}
 use lib.ListN.{length, getD, take, drop, take-append-drop}
 use borrow.Author.Tests.{lt-ltb, le-ltb}
 use Rattle.taxa.specs.Sets.{_∈_, _∉_, _⊆_, _∪_, _∖_, within, all}
-use Rattle.taxa.proofs.Members.{none, in∪, in∖, ext, ∪-⊆, in-pow, pow-in, pow-⊆, in-all, within-⊆}
+use Rattle.taxa.proofs.Members.{none, in∪, in∖, ext, ∪-⊆, ⊆-refl, in-pow, pow-in, pow-⊆, in-all, within-⊆}
 use Rattle.grammar.specs.Columns.{Bytes}
-use Rattle.grammar.specs.Limits.{equal, isIn, seen, number, Distinct, end, next}
+use Rattle.grammar.specs.Limits.{equal, isIn, seen, number, Distinct, next}
 use Rattle.grammar.proofs.Lists.{distinct-latter}
 use Rattle.grammar.proofs.Numbering.{equal-refl, mem-isIn, isIn-mem, number-at, number-seen}
 use Rattle.ledger.specs.Sets.{setOf}
@@ -56,12 +56,13 @@ set-known {taxa} {ns} k = record { sub = λ h. let (n, m, e) = of-set taxa ns h 
 set-⊆ : (taxa : List Bytes) {ns ms : List Bytes} → Among ms ns → setOf taxa ns ⊆ setOf taxa ms
 set-⊆ taxa {ns} k = record { sub = λ h. let (n, m, e) = of-set taxa ns h in rw (← e) (to-set taxa (k n m)) }
 
-pub set-append : (taxa ns ms : List Bytes) → setOf taxa (ns ++ ms) ≡ setOf taxa ns ∪ setOf taxa ms
+set-append : (taxa ns ms : List Bytes) → setOf taxa (ns ++ ms) ≡ setOf taxa ns ∪ setOf taxa ms
 set-append taxa ns ms =
     ext (record { sub = λ h. to (of-set taxa (ns ++ ms) h) }) (∪-⊆ (set-⊆ taxa (λ n m. Memᴰ·append-left ms m)) (set-⊆ taxa (λ n m. Memᴰ·append-right ns m)))
   where
     to : {i : ℕ} → HasNumber taxa (ns ++ ms) i → i ∈ setOf taxa ns ∪ setOf taxa ms
-    to (n, m, e) = rw (← e) (in∪ (setOf taxa ns) (setOf taxa ms) .1 (⊎-elim (λ h. inl (to-set taxa h)) (λ h. inr (to-set taxa h)) (List·Memᴰ·append-cases ns m)))
+    to (n, m, e) =
+        rw (← e) (in∪ (setOf taxa ns) (setOf taxa ms) .1 (⊎-elim (λ h. inl (to-set taxa h)) (λ h. inr (to-set taxa h)) (List·Memᴰ·append-cases ns m)))
 
 -- ---- numbers
 
@@ -86,7 +87,7 @@ unfolding number
 number-last [] n = rw (equal-refl n)
 number-last (m ∷ taxa) n = rw (number-last taxa n)
 
-pub number-kept : (taxa : List Bytes) (n : Bytes) → number (seen taxa (n ∷ [])) n ≡ number taxa n
+number-kept : (taxa : List Bytes) (n : Bytes) → number (seen taxa (n ∷ [])) n ≡ number taxa n
 unfolding seen
 number-kept taxa n = go (isIn n taxa)
   where
@@ -101,6 +102,20 @@ known-in taxa n = go (isIn n taxa) refl
     go : (c : Bool) → isIn n taxa ≡ c → ltb (number taxa n) (length taxa) ≡ c
     go true e = lt-ltb (number taxa n) (length taxa) (number-at (isIn-mem n taxa e) .0)
     go false e = le-ltb (number taxa n) (length taxa) (omega (arith, number-new taxa n e))
+
+-- The taxa, with a name that may be new.
+pub seen-known : (taxa : List Bytes) (n : Bytes) → cond (ltb (number taxa n) (length taxa)) taxa (taxa ++ n ∷ []) ≡ seen taxa (n ∷ [])
+unfolding seen
+seen-known taxa n = rw (known-in taxa n)
+
+set-one : (taxa : List Bytes) (n : Bytes) → setOf taxa (n ∷ []) ≡ 2 ^ number taxa n
+unfolding setOf
+set-one taxa n = let b = 2 ^ number taxa n in ext (∪-⊆ (⊆-refl b) (record { sub = λ h. absurd (none h) })) (record { sub = λ h. in∪ b 0 .1 (inl h) })
+
+-- One name more, by its number before it is seen.
+pub set-entered : {taxa : List Bytes} (ns : List Bytes) (n : Bytes) → Among taxa ns
+    → setOf taxa ns ∪ 2 ^ number taxa n ≡ setOf (seen taxa (n ∷ [])) (ns ++ n ∷ [])
+set-entered {taxa} ns n k = let t = seen taxa (n ∷ []) in rw (set-append t ns (n ∷ []), set-one t n, number-kept taxa n, set-seen (n ∷ []) ns k)
 
 -- No two taxa have one number.
 one-name : {taxa : List Bytes} {n m : Bytes} → List·Memᴰ n taxa → List·Memᴰ m taxa → number taxa n ≡ number taxa m → n ≡ m

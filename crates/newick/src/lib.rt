@@ -1,4 +1,5 @@
 // Source trees in: a Newick text to a matrix file and a name list.
+mod reader;
 mod scan;
 mod tokens;
 

@@ -34,7 +34,7 @@ const COMMA: u8 = 44;
 
 const SEMICOLON: u8 = 59;
 
-fn refused(number: u8, place: usize) -> Stepped
+pub fn refused(number: u8, place: usize) -> Stepped
     ensures { λ r. ⌜ r ≡ stepped.Refused (records.refused number place) ⌝ }
 {
     Stepped::Refused(Refusal { number, place })
@@ -261,4 +261,40 @@ fn take_semicolon(
         opened: 0,
         depth: 0,
     })
+}
+
+// The token at which the reader stands.
+pub fn take_token(
+    text: &[u8],
+    starts: &mut [usize; 64],
+    sizes: &mut [usize; 64],
+    ones: &mut [u64; 256],
+    zeros: &mut [u64; 256],
+    index: &mut [usize; 64],
+    before: &mut [u64; 64],
+    filled: &mut [bool; 64],
+    from: Reading,
+) -> Stepped
+{
+    let at = from.at;
+    let b = text[at];
+    if from.ended {
+        if b == RIGHT {
+            return take_right(ones, index, before, filled, from, at + 1);
+        }
+        if b == COMMA {
+            return take_comma(filled, from, at + 1);
+        }
+        if b == SEMICOLON {
+            return take_semicolon(ones, zeros, from, at + 1);
+        }
+        return refused(16, at);
+    }
+    if grammar::is_letter(b) {
+        return take_name(text, starts, sizes, from);
+    }
+    if b == LEFT {
+        return take_left(ones, index, before, filled, from, at + 1);
+    }
+    refused(16, at)
 }
