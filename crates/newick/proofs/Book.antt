@@ -90,7 +90,7 @@ more-less : (i : ℕ) → i + 1 - 1 ≡ i
 more-less i = omega arith
 
 one-up : (i : ℕ) → i + 1 ≡ suc i
-one-up i = add-one
+one-up i = add-one i
 
 -- .. as one clade more,
 pub clades-more : (ones : List ℕ) (columns opened : ℕ) → columns + opened ≤ length ones

@@ -23,3 +23,9 @@ pub enum Stepped {
     On(Reading),
     Refused(Refusal),
 }
+
+// What reading answers: the lengths of the matrix file and of the name list, or the refusal.
+pub enum Read {
+    Taken(usize, usize),
+    Refused(Refusal),
+}
