@@ -1,0 +1,1 @@
+-- Laws that other crates cite.
