@@ -1,1 +1,3 @@
 -- Laws that other crates cite.
+pub mod Spelling
+pub mod Walking

@@ -50,7 +50,7 @@ unfoldable pub nameAt : List ℕ → ℕ → Bytes
 nameAt file at = take (numberAt 2 file at) (drop (at + 4) file)
 
 -- Where the record after it starts.
-unfoldable pub after : List ℕ → ℕ → ℕ
+abbrev pub after : List ℕ → ℕ → ℕ
 after file at = at + 4 + numberAt 2 file at
 
 -- The names of k records, of which the first one starts at a place.
