@@ -2,3 +2,5 @@
 pub mod Spelling
 pub mod Walking
 pub mod Judging
+pub mod Passing
+pub mod Turns
