@@ -307,5 +307,25 @@ module _ {text : List ℕ} {k : Book} {r : Reading} (h : Holds text k r) where
       size : length read ≡ end - r .at
       size = length-piece text (r .at) (end - r .at) (omega (arith, run .within))
 
-      here-18 : (b : Bool) → i < r .taxa → within (2 ^ i) (r .here) ≡ b → note (ledgerIn text k r) (word read) ≡ cond b (fails 18) (goes (entering (ledgerIn text k r) read))
-      here-18 b l w = ?
+      abbrev before-it : Ledger
+      before-it = ledgerIn text k r
+
+      fits : ltb 32 (length read) ≡ false
+      fits = le-ltb 32 (length read) (omega (arith, size))
+
+      number-of : (c : Bool) → ltb i (r .taxa) ≡ c → known before-it read ≡ c
+      number-of c f = rw (← e, length-names text (k .starts) (k .sizes) (r .taxa)) f
+
+      -- A name that the file has.
+      module _ (l : i < r .taxa) where
+        pub name-18 : within (2 ^ i) (r .here) ≡ true → outcome text ≡ refused 18 (r .at)
+        unfolding wrongs
+        name-18 w = name-refused (at-subtree subtree) run some short (rw (fits, number-of true (lt-ltb i (r .taxa) l), ← e, w))
+
+        pub name-known : within (2 ^ i) (r .here) ≡ false → Holds text k (withName r end (r .taxa) i)
+        unfolding wrongs keep
+        name-known w =
+            let old = number-of true (lt-ltb i (r .taxa) l) in
+            let goes-on : note before-it (word read) ≡ goes (entering before-it read) = rw (fits, old, ← e, w) in
+            let stands = rw (old, ← e) at (names (at-subtree subtree) run some short goes-on) in
+            record { placed = h .placed; bracketed = ?; zeros-room = h .zeros-room; stands = stands }

@@ -1,0 +1,6 @@
+-- Laws that other crates cite.
+pub mod Spelling
+pub mod Walking
+pub mod Judging
+pub mod Passing
+pub mod Turns
