@@ -1,13 +1,14 @@
 -- Names in a text: pieces compared byte by byte (`same-pieces`, `other-pieces`), and the number of a name as a loop finds it (`found`, `not-found`).
 use mathlib.Core.Path.{_≡_, refl, sym, ap, _∙_, subst}
-use mathlib.Core.Bool.{Bool, true, false, true≢false}
+use mathlib.Core.Bool.{Bool, true, false, cond}
 use mathlib.Core.Logic.{⊎-elim}
 use mathlib.Core.List.{List, [], _∷_, _++_}
 use Prim.Native.Nat.{ℕ, zero, suc, _+_, _≤_, _<_}
 use native.Mathlib.Nat.{eq-or-lt-of-le}
+use native.Mathlib.Numerals.{add-one}
 use native.Mathlib.Omega.{arith}
-use lib.ListN.{length, getD, take, drop, length-drop, length-append, List·getD-append}
-use lib.Seq.{length-take-le, getD-take, getD-drop, ext-getD, getD-at}
+use lib.ListN.{length, getD, set, take, drop, length-drop, length-append, List·getD-append}
+use lib.Seq.{length-take-le, getD-take, getD-drop, ext-getD, getD-at, getD-set-same, getD-set-other}
 use Rattle.grammar.specs.Columns.{Bytes}
 use Rattle.grammar.specs.Limits.{equal, number}
 use Rattle.grammar.specs.inner.Standing.{piece}
@@ -64,6 +65,15 @@ unfolding number
 number-nowhere [] n before = refl
 number-nowhere (m ∷ ms) n before = rw (before 0 (omega arith)) (ap suc (number-nowhere ms n (λ j k. before (suc j) (omega arith))))
 
+pub number-most : (ms : List Bytes) (n : Bytes) → number ms n ≤ length ms
+unfolding number
+number-most [] n = omega arith
+number-most (m ∷ ms) n = go (equal n m) (number-most ms n)
+  where
+    go : (c : Bool) → number ms n ≤ length ms → cond c 0 (suc (number ms n)) ≤ suc (length ms)
+    go true l = omega arith
+    go false l = omega arith
+
 -- ---- the names that are placed
 
 pub length-names : (text starts sizes : List ℕ) (n : ℕ) → length (namesIn text starts sizes n) ≡ n
@@ -80,6 +90,21 @@ name-in text starts sizes (suc n) i l =
     (λ e. rw e (getD-at (namesIn text starts sizes n) _ [] [] n k))
     (λ b. List·getD-append (namesIn text starts sizes n) _ [] i (omega arith) ∙ name-in text starts sizes n i b)
     (eq-or-lt-of-le (omega arith))
+
+-- A store past the first n changes none of them, and one right after them is one name more.
+names-kept : (text starts sizes : List ℕ) (at size i n : ℕ) → n ≤ i → namesIn text (set starts i at) (set sizes i size) n ≡ namesIn text starts sizes n
+unfolding namesIn
+names-kept text starts sizes at size i zero l = refl
+names-kept text starts sizes at size i (suc n) l =
+    let e = getD-set-other starts i n at 0 (λ e. absurd (omega arith)) in
+    let f = getD-set-other sizes i n size 0 (λ e. absurd (omega arith)) in
+    rw (e, f, names-kept text starts sizes at size i n (omega arith))
+
+pub names-more : (text starts sizes : List ℕ) (at size n : ℕ) → n < length starts → n < length sizes
+    → namesIn text (set starts n at) (set sizes n size) (n + 1) ≡ namesIn text starts sizes n ++ (piece text at size ∷ [])
+unfolding namesIn
+names-more text starts sizes at size n l m =
+    rw (add-one, getD-set-same starts n at 0 l, getD-set-same sizes n size 0 m, names-kept text starts sizes at size n n (omega arith))
 
 module _ (text starts sizes : List ℕ) (n : ℕ) (m : Bytes) where
   -- The first i names are others.

@@ -1,3 +1,2 @@
 -- Reading source trees.
-pub mod Read
 pub mod inner
