@@ -4,3 +4,4 @@ pub mod Walking
 pub mod Judging
 pub mod Passing
 pub mod Turns
+pub mod Taken
