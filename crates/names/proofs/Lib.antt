@@ -5,3 +5,4 @@ pub mod Judging
 pub mod Passing
 pub mod Turns
 pub mod Taken
+pub mod Encoding
