@@ -6,3 +6,4 @@ pub mod Passing
 pub mod Turns
 pub mod Taken
 pub mod Encoding
+pub mod Checking
