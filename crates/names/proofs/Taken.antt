@@ -22,6 +22,7 @@ use Rattle.names.specs.declared.Listed.the-variants.{Taken}
 use Rattle.names.specs.Names.{LegalName, Legal, nameBytes, endBytes, listOf, nameAt, after, placeFrom}
 use Rattle.names.specs.Check.{Listing, names, refusal, namePassed, endPassed, ended, goesOn, listedIn, listed, namesOf, namesIn, counted, checked}
 use Rattle.names.proofs.Spelling.{spelt-name}
+use Rattle.names.proofs.Lists.{list-none, list-first}
 use Rattle.names.proofs.Passing.{Passing, passing, length-name, Ending, ending}
 
 -- ---- the records that were passed
@@ -91,9 +92,10 @@ module _ {file : List ℕ} where
       rw (length-name file at (omega (arith, p .stands))) (record-bytes _ _ f (p .stands) split)
 
   stands : File file → {before ms : List Bytes} {at : ℕ} → Reading file before at ms → drop at file ≡ listOf ms
-  unfolding listOf
-  stands f (done {at = at} e) = record-bytes [] [] f (e .stands) (drop-of-length-le file {i = at + 4} (e .last)) ∙ append-nil endBytes
-  stands f (name {at = at} next p r) = record-stands f next p ∙ ap (_++_ (nameBytes (nameAt file at))) (stands f r)
+  stands f (done {at = at} e) = record-bytes [] [] f (e .stands) (drop-of-length-le file {i = at + 4} (e .last)) ∙ append-nil endBytes ∙ sym list-none
+  stands f (name {ms = ms} {at} next p r) =
+      let n = nameAt file at in
+      record-stands f next p ∙ ap (_++_ (nameBytes n)) (stands f r) ∙ sym (list-first n ms)
 
   -- They are legal.
   legal-name : {before : List Bytes} {at : ℕ} (next : Cursor) → Passing file before at next → LegalName (nameAt file at)

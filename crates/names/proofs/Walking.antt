@@ -1,5 +1,5 @@
--- Records of names met one after the other: the first of some and the others (`names-one`, `place-one`), one more after them (`names-more`, `place-more`),
--- and name number i of them (`name-from`); a name as a part of the file (`name-part`).
+-- Records of names met one after the other: the first of some and the others (`names-one`, `place-one`), one more after them (`names-more`, `place-more`);
+-- a name as a part of the file (`name-part`).
 use mathlib.Core.Path.{_≡_, refl, ap, _∙_}
 use mathlib.Core.Bool.{false, _||_}
 use mathlib.Core.List.{List, [], _∷_, _++_}
@@ -7,7 +7,7 @@ use Prim.Native.Nat.{ℕ, zero, suc, _+_, _-_, _*_, _≤_, _<_}
 use native.Mathlib.Nat.{suc-add}
 use native.Mathlib.Numerals.{sub-one}
 use native.Mathlib.Omega.{arith}
-use lib.ListN.{length, getD, take, drop}
+use lib.ListN.{length, take, drop}
 use Rattle.grammar.specs.Columns.{Bytes}
 use Rattle.grammar.specs.Limits.{equal, isIn}
 use Rattle.record.specs.Bytes.{numberAt}
@@ -19,7 +19,7 @@ module _ (file : List ℕ) where
   unfolding nameAt
   name-part at end e = let l : end - (at + 4) ≡ numberAt 2 file at = omega arith in rw l
 
-  pub names-one : (k at : ℕ) → 0 < k → namesFrom file k at ≡ nameAt file at ∷ namesFrom file (k - 1) (after file at)
+  names-one : (k at : ℕ) → 0 < k → namesFrom file k at ≡ nameAt file at ∷ namesFrom file (k - 1) (after file at)
   unfolding namesFrom
   names-one zero at h = absurd (omega arith)
   names-one (suc k) at h = rw (sub-one (suc k))
@@ -64,9 +64,3 @@ module _ (file : List ℕ) where
   unfolding namesFrom
   length-names zero at = refl
   length-names (suc k) at = ap suc (length-names k (after file at))
-
-  pub name-from : (k at i : ℕ) → i < k → getD (namesFrom file k at) i [] ≡ nameAt file (placeFrom file i at)
-  unfolding namesFrom placeFrom
-  name-from zero at i h = absurd (omega arith)
-  name-from (suc k) at zero h = refl
-  name-from (suc k) at (suc i) h = name-from k (after file at) i (omega arith)
