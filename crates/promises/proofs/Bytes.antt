@@ -16,6 +16,5 @@ unfolding fileOf headBytes groupBytes flipsBytes endBytes
 file-bytes c =
     let numbers = join _ (join _ (join _ (join _ (number 2 (c .n)) (number 2 (c .m))) (number 2 (c .groups))) (number 2 (c .flips))) (number 4 (c .total)) in
     let groups = runs _ (λ i. record-file _ (join _ (number 8 (getD (c .taxa) i 0)) (number 4 (getD (c .costs) i 0)))) (c .groups) in
-    let flip = λ j. join _ (join _ (number 2 (getD (c .columns) j 0)) (number 8 (getD (c .raised) j 0))) (number 8 (getD (c .lowered) j 0)) in
-    let flips = runs _ (λ j. record-file _ (flip j)) (c .flips) in
+    let flips = runs _ (λ j. record-file _ (join _ (join _ (number 2 (getD (c .columns) j 0)) (number 8 (getD (c .raised) j 0))) (number 8 (getD (c .lowered) j 0)))) (c .flips) in
     join _ (join _ (join _ (record-file _ numbers) groups) flips) (record-file _ no-bytes)
