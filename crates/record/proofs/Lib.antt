@@ -2,5 +2,6 @@
 pub mod Numbers
 pub mod Over
 pub mod Steps
+pub mod Lengths
 pub mod Passing
 pub mod Places

@@ -1,0 +1,4 @@
+-- Laws that other crates cite.
+pub mod Spelling
+pub mod Walking
+pub mod Judging
