@@ -1,5 +1,5 @@
--- Records of names met one after the other: the first of some and the others (`names-one`, `place-one`), one more after them (`names-more`, `place-more`),
--- and name number i of them (`name-from`); a name as a part of the file (`name-part`).
+-- Records of names met one after the other: the first of some and the others (`names-one`, `place-one`), one more after them (`names-more`, `place-more`);
+-- a name as a part of the file (`name-part`).
 use mathlib.Core.Path.{_≡_, refl, ap, _∙_}
 use mathlib.Core.Bool.{false, _||_}
 use mathlib.Core.List.{List, [], _∷_, _++_}
@@ -7,7 +7,7 @@ use Prim.Native.Nat.{ℕ, zero, suc, _+_, _-_, _*_, _≤_, _<_}
 use native.Mathlib.Nat.{suc-add}
 use native.Mathlib.Numerals.{sub-one}
 use native.Mathlib.Omega.{arith}
-use lib.ListN.{getD, take, drop}
+use lib.ListN.{length, take, drop}
 use Rattle.grammar.specs.Columns.{Bytes}
 use Rattle.grammar.specs.Limits.{equal, isIn}
 use Rattle.record.specs.Bytes.{numberAt}
@@ -19,7 +19,7 @@ module _ (file : List ℕ) where
   unfolding nameAt
   name-part at end e = let l : end - (at + 4) ≡ numberAt 2 file at = omega arith in rw l
 
-  pub names-one : (k at : ℕ) → 0 < k → namesFrom file k at ≡ nameAt file at ∷ namesFrom file (k - 1) (after file at)
+  names-one : (k at : ℕ) → 0 < k → namesFrom file k at ≡ nameAt file at ∷ namesFrom file (k - 1) (after file at)
   unfolding namesFrom
   names-one zero at h = absurd (omega arith)
   names-one (suc k) at h = rw (sub-one (suc k))
@@ -39,6 +39,11 @@ module _ (file : List ℕ) where
   place-one zero at h = absurd (omega arith)
   place-one (suc k) at h = rw (sub-one (suc k))
 
+  pub place-none : (k at : ℕ) → k ≤ 0 → placeFrom file k at ≡ at
+  unfolding placeFrom
+  place-none zero at h = refl
+  place-none (suc k) at h = absurd (omega arith)
+
   pub names-more : (k at : ℕ) → namesFrom file (k + 1) at ≡ namesFrom file k at ++ nameAt file (placeFrom file k at) ∷ []
   unfolding namesFrom placeFrom
   names-more zero at = refl
@@ -55,8 +60,7 @@ module _ (file : List ℕ) where
   place-grows zero at = omega arith
   place-grows (suc k) at = omega (arith, place-grows k (after file at))
 
-  pub name-from : (k at i : ℕ) → i < k → getD (namesFrom file k at) i [] ≡ nameAt file (placeFrom file i at)
-  unfolding namesFrom placeFrom
-  name-from zero at i h = absurd (omega arith)
-  name-from (suc k) at zero h = refl
-  name-from (suc k) at (suc i) h = name-from k (after file at) i (omega arith)
+  pub length-names : (k at : ℕ) → length (namesFrom file k at) ≡ k
+  unfolding namesFrom
+  length-names zero at = refl
+  length-names (suc k) at = ap suc (length-names k (after file at))

@@ -60,14 +60,18 @@ abbrev pub goesOn : Passed → (Cursor → Listing) → Listing
 goesOn (At next) go = go next
 goesOn (passed.Refused why) go = refusal why
 
--- What follows the names `before`: a record of kind 33 is a name, any other has to be the end. Each name takes some of the bytes that are left,
--- so that these are turns enough (`listed-step` of proofs/ has this sentence without them); with none left the opening is missing.
+-- The record after the names `before`: one of kind 33 is a name, and `go` is what follows the names with it; any other has to be the end.
+abbrev pub recordListed : List ℕ → List Bytes → Cursor → (List Bytes → Cursor → Listing) → Listing
+recordListed file before here go =
+    cond (finds file (here .at) records.name)
+    (goesOn (namePassed file before here) (go (before ++ nameAt file (here .at) ∷ [])))
+    (ended before (endPassed file here))
+
+-- Record by record. A name takes some of the bytes that are left, so that these are turns enough: `listed-step` (proofs/Turns.antt) says the same without
+-- turns. With no byte left the next record's start is missing.
 unfoldable pub listedIn : ℕ → List ℕ → List Bytes → Cursor → Listing
 listedIn zero file before here = refusal (refused 1 (here .at))
-listedIn (suc turns) file before here =
-    cond (finds file (here .at) records.name)
-    (goesOn (namePassed file before here) (listedIn turns file (before ++ nameAt file (here .at) ∷ [])))
-    (ended before (endPassed file here))
+listedIn (suc turns) file before here = recordListed file before here (listedIn turns file)
 
 abbrev pub listedFrom : List ℕ → List Bytes → Cursor → Listing
 listedFrom file before here = listedIn (left file (here .at)) file before here

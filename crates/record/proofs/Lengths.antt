@@ -1,13 +1,15 @@
--- Records whose length may vary: which lengths are allowed (`up-to-least`, `above-least`), what a step that is taken says of the file (`varying-held`), and that a record that stands in a file is taken
--- (`varying-taken`).
-use mathlib.Core.Path.{_≡_, refl, ap, _∙_, subst}
-use mathlib.Core.Bool.{Bool, true, false, _&&_, cond, or-false}
+-- Records whose length may vary: which lengths are allowed (`allowed-is`, `is-allowed`), what a step that is taken says of the file (`varying-held`), and that
+-- a record that stands in a file is taken (`varying-taken`).
+use mathlib.Core.Path.{_≡_, refl, sym, ap, _∙_, subst}
+use mathlib.Core.Bool.{Bool, true, false, _&&_, cond, or-false, and-eq-true-iff}
 use mathlib.Core.List.{List, _++_}
 use Prim.Native.Nat.{ℕ, _+_, _-_, _%_, _≤_, _<_}
+use native.Mathlib.Nat.{zero-mod}
+use native.Mathlib.Decide.{decLt}
 use native.Mathlib.Omega.{arith}
 use lib.Dec.{leb, eqb}
 use lib.ListN.{length, drop}
-use borrow.Author.Tests.{eq-eqb, ne-eqb, lt-ltb, le-ltb}
+use borrow.Author.Tests.{eq-eqb, ne-eqb, lt-ltb, le-ltb, le-leb, eqb-true, leb-true}
 use Rattle.record.specs.Bytes.{numberAt}
 use Rattle.record.specs.Records.{allowed, varied, varyingStep, recordBytes}
 use Rattle.record.specs.declared.Cursor.{Cursor}
@@ -29,6 +31,26 @@ module _ (v : Varying) (l : ℕ) where
   pub above-least : v .least < l → (leb l (v .most) && eqb ((l - v .least) % v .by) 0) ≡ allowed v l
   unfolding allowed
   above-least h = rw (ne-eqb l (v .least) (λ e. omega arith), lt-ltb _ _ h)
+
+  -- Of a least that is not above the most: which lengths these are.
+  pub allowed-is : v .least ≤ v .most → allowed v l ≡ true → (v .least ≤ l) × (l ≤ v .most) × ((l - v .least) % v .by ≡ 0)
+  allowed-is h a =
+      elim (decLt (v .least) l) [
+        | yes more ↦
+            let (high, step) = and-eq-true-iff (leb l (v .most)) (eqb ((l - v .least) % v .by) 0) .0 (above-least more ∙ a) in
+            (omega arith, leb-true l (v .most) high, eqb-true _ 0 step)
+        | no none ↦
+            let same = eqb-true l (v .least) (up-to-least (omega arith) ∙ a) in
+            let no-more : l - v .least ≡ 0 = omega arith in
+            (omega arith, omega arith, rw no-more (zero-mod (v .by)))
+      ]
+
+  pub is-allowed : v .least ≤ l → l ≤ v .most → (l - v .least) % v .by ≡ 0 → allowed v l ≡ true
+  is-allowed low high step =
+      elim (decLt (v .least) l) [
+        | yes more ↦ sym (above-least more) ∙ rw (le-leb l (v .most) high, eq-eqb ((l - v .least) % v .by) 0 step)
+        | no none ↦ sym (up-to-least (omega arith)) ∙ eq-eqb l (v .least) (omega arith)
+      ]
 
 -- The least is allowed, so that a length that is not differs from it.
 least-allowed : (v : Varying) → allowed v (v .least) ≡ true

@@ -36,9 +36,10 @@ loop-again c =
     let in-loop = c .before .before .before in
     let at = in-loop .before .loop in
     let args = in-loop .before .before .before .args in
-    let file = args .file .now in
-    (rw (c .after .ensures) (at .inv .0 ∙ place-one file (at .left) (at .at) (in-loop .loop-test .taken)),
-    rw (at .inv .1, c .after .ensures, in-one file (nameAt file (args .place)) (at .left) (at .at) (in-loop .loop-test .taken), sym (c .before .before .same-name .ensures) ∙ c .before .if1 .left))
+    let file = args .file .now in (
+      rw (c .after .ensures) (at .inv .0 ∙ place-one file (at .left) (at .at) (in-loop .loop-test .taken)),
+      rw (at .inv .1, c .after .ensures, in-one file (nameAt file (args .place)) (at .left) (at .at) (in-loop .loop-test .taken), sym (c .before .before .same-name .ensures) ∙ c .before .if1 .left),
+    )
 
 returns-2 : tie.Need-returns-2 Inv-loop μ-loop
 returns-2 c = let at = c .before .loop in rw (at .inv .1, in-none _ _ (at .left) (at .at) (c .loop-test .left))
