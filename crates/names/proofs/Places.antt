@@ -22,7 +22,8 @@ use Rattle.record.specs.declared.Passed.the-variants.{At, Refused}
 use Rattle.record.proofs.Steps.{EndsBy, step-ends, either-way}
 use Rattle.names.specs.declared.Listed.the-variants as answer
 use Rattle.names.specs.Names.{nameAt}
-use Rattle.names.specs.Check.{anyName, spelt, nameJudged, namePassed, endPassed, Listing, names, refusal, ended, goesOn, listedIn, listed, counted, checked}
+use Rattle.names.specs.Check.{anyName, spelt, nameJudged, namePassed, endPassed}
+use Rattle.names.specs.Check.{Listing, names, refusal, ended, goesOn, listedIn, listed, counted, checked}
 use Rattle.names.proofs.Passing.{passing}
 
 module _ (file : List ℕ) where
@@ -40,7 +41,8 @@ module _ (file : List ℕ) where
   ToldOf (refusal why) = There why
 
   -- A record at a place, and then the tests of its content.
-  told-judged : (at : ℕ) (it : Record) → at ≤ length file → (judge : ℕ → Cursor → Passed) → ((b : ℕ) (c : Cursor) → Told (judge b c)) → Told (judged (records.step file at it) judge)
+  told-judged : (at : ℕ) (it : Record) → at ≤ length file → (judge : ℕ → Cursor → Passed) → ((b : ℕ) (c : Cursor) → Told (judge b c))
+      → Told (judged (records.step file at it) judge)
   told-judged at it h judge all = go (records.step file at it) (step-ends file at it)
     where
       go : (s : Step) → EndsBy at it s → Told (judged s judge)

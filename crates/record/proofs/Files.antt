@@ -23,14 +23,14 @@ pub join : (xs : List ℕ) {ys : List ℕ} → File xs → File ys → File (xs 
 join [] f g = g
 join (x ∷ xs) f g = one-more (f .byte 0) (join xs (record { byte = λ i. f .byte (suc i) }) g)
 
-pub number-file : (k v : ℕ) → File (bytesOf k v)
+pub number : (k v : ℕ) → File (bytesOf k v)
 unfolding bytesOf
-number-file zero v = no-bytes
-number-file (suc k) v = one-more (omega arith) (number-file k (v / 256))
+number zero v = no-bytes
+number (suc k) v = one-more (omega arith) (number k (v / 256))
 
 pub record-file : (it : Record) {content : List ℕ} → File content → File (recordBytes it content)
 unfolding recordBytes openingOf
-record-file it f = join _ (join _ (number-file 2 (it .length)) (number-file 2 (it .kind))) f
+record-file it f = join _ (join _ (number 2 (it .length)) (number 2 (it .kind))) f
 
 pub length-record : (it : Record) (content : List ℕ) → length (recordBytes it content) ≡ 4 + length content
 unfolding recordBytes openingOf
