@@ -8,7 +8,7 @@ use Rattle.record.specs.Bytes.{bytesOf}
 use Rattle.record.specs.Records as records
 use Rattle.record.specs.Records.{recordOf, openingOf, recordBytes}
 use Rattle.record.proofs.Numbers.{length-bytes}
-use Rattle.record.proofs.Over.{length-opening, opening-only}
+use Rattle.record.proofs.Files.{length-opening, opening-only}
 use Rattle.answer.specs.Content.{Content, run, headBytes, groupBytes, flipsBytes, endBytes, groupRecord, flipsRecord, fileOf, lengthOf}
 use Rattle.answer.proofs.Runs.{length-run}
 

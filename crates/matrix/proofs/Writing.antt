@@ -1,5 +1,5 @@
--- The file of columns of weight 1: its records in the order in which they are written (`head-flat`, `column-flat`, `columns-next`), how long it is (`length-weighing`),
--- and columns that are given one by one (`weighing-map`).
+-- The file of a matrix as it is written: its records (`head-flat`, `column-flat`), the first columns of weight 1 of two lists (`first-next`), and how long it is
+-- (`length-file`).
 use mathlib.Core.Path.{_≡_, refl, sym, ap, _∙_}
 use mathlib.Core.List.{List, [], _∷_, _++_, map, append-assoc, append-nil}
 use Prim.Native.Nat.{ℕ, zero, suc, _+_, _*_, _≤_, _<_}
@@ -11,7 +11,7 @@ use Rattle.record.specs.Bytes.{bytesOf}
 use Rattle.record.specs.Records as records
 use Rattle.record.specs.Records.{recordOf, openingOf, recordBytes}
 use Rattle.record.proofs.Numbers.{length-bytes}
-use Rattle.record.proofs.Over.{length-record}
+use Rattle.record.proofs.Files.{length-record}
 use Rattle.matrix.specs.declared.Column.{Column}
 use Rattle.matrix.specs.Matrix.{Matrix, headBytes, columnBytes, columnsBytes, endBytes, multiplicityBytes, fileOf, weighingOne}
 
@@ -31,7 +31,7 @@ length-head n m = simp (length-record, length-append, length-bytes)
 length-column : (c : Column) → length (columnBytes c) ≡ 22
 length-column c = simp (length-record, length-append, length-bytes)
 
-pub length-columns : (cs : List Column) → length (columnsBytes cs) ≡ 22 * length cs
+length-columns : (cs : List Column) → length (columnsBytes cs) ≡ 22 * length cs
 unfolding columnsBytes
 length-columns [] = refl
 length-columns (c ∷ cs) = length-append (columnBytes c) (columnsBytes cs) ∙ omega (arith, length-column c, length-columns cs)
@@ -76,6 +76,9 @@ module _ (ones zeros : List ℕ) where
     length-first l h =
         let n = length-take-le i ones l in
         length-weighing (take i ones) (take i zeros) (n ∙ sym (length-take-le i zeros h)) ∙ n
+
+    pub length-first-bytes : i ≤ length ones → i ≤ length zeros → length (columnsBytes (firstColumns i)) ≡ 22 * i
+    length-first-bytes l h = length-columns (firstColumns i) ∙ rw (length-first l h)
 
     pub first-next : i < length ones → i < length zeros
         → columnsBytes (firstColumns (i + 1)) ≡ columnsBytes (firstColumns i) ++ columnBytes (weighs-one (getD ones i 0) (getD zeros i 0))

@@ -1,4 +1,4 @@
-// A matrix with no multiplicities and columns of weight 1, written: each record from the first free byte of the part of the output that is lent on to its writer.
+// A matrix with no multiplicities and columns of weight 1: each record is written from the first free byte of the part of the output that is lent.
 ghost use mathlib.Core.Path.{_≡_};
 ghost use mathlib.Core.List.{[]};
 ghost use Prim.Native.Nat.{_≤_, _+_, _*_};

@@ -9,9 +9,6 @@ use lib.ListN.{length, take, drop, set, take-append-drop, length-append, length-
 use lib.Seq.{set-split, append-snoc, take-at, drop-append-add, take-all, drop-drop, length-take-le}
 use borrow.Rule.Slice.PartMut.{midOf, postOf, putMid}
 use Rattle.record.specs.Bytes.{over}
-use Rattle.record.specs.Records.{openingOf, recordBytes}
-use Rattle.record.specs.declared.Record.{Record}
-use Rattle.record.proofs.Numbers.{length-bytes}
 
 pub nothing : (a : ℕ) (xs : List ℕ) → xs ≡ over [] a xs
 unfolding over
@@ -61,18 +58,3 @@ onto r r′ a b xs h e =
 pub next : (r r′ xs : List ℕ) (a b : ℕ) {l l′ : List ℕ} → l ≡ over r a xs → l′ ≡ over r′ 0 (midOf b (length l - b) l)
     → a ≤ length xs → a + length r ≡ b → putMid b (length l - b) l l′ ≡ over (r ++ r′) a xs
 next r r′ xs a b {l} {l′} e e′ h n = lends r′ b l e′ ∙ ap (over r′ b) e ∙ onto r r′ a b xs h n
-
--- ---- a record, as it is written
-
-pub length-opening : (it : Record) → length (openingOf it) ≡ 4
-unfolding openingOf
-length-opening it = simp (length-append, length-bytes)
-
-pub length-record : (it : Record) (content : List ℕ) → length (recordBytes it content) ≡ 4 + length content
-unfolding recordBytes
-length-record it content = length-append (openingOf it) content ∙ omega (arith, length-opening it)
-
--- With no payload there is nothing to write after the opening.
-pub opening-only : (it : Record) → recordBytes it [] ≡ openingOf it
-unfolding recordBytes
-opening-only it = append-nil (openingOf it)

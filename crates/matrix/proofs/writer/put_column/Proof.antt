@@ -3,7 +3,8 @@ use borrow.Author.Needs.{needs}
 use native.Mathlib.Omega.{arith}
 use lib.ListN.{length-append}
 use Rattle.record.proofs.Numbers.{length-bytes}
-use Rattle.record.proofs.Over.{next, length-opening}
+use Rattle.record.proofs.Files.{length-opening}
+use Rattle.record.proofs.Over.{next}
 use Rattle.matrix.proofs.Writing.{column-flat}
 use Rattle.matrix.proofs.writer.put_column.Statement.{statement}
 use Rattle.matrix.proofs.writer.put_column.Tie as tie

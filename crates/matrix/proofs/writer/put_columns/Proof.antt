@@ -7,12 +7,13 @@ use lib.ListN.{length}
 use Rattle.record.specs.Bytes.{over}
 use Rattle.record.proofs.Over.{nothing, next}
 use Rattle.matrix.specs.Matrix.{columnsBytes, weighingOne}
-use Rattle.matrix.proofs.Writing.{length-columns, firstColumns, length-first, first-next}
+use Rattle.matrix.proofs.Writing.{firstColumns, length-first-bytes, first-next}
 use Rattle.matrix.proofs.writer.put_columns.Statement.{statement}
 use Rattle.matrix.proofs.writer.put_columns.Tie as tie
 
 abbrev Inv-loop : tie.InvT-loop
-Inv-loop out₀ ones zeros m i₀ at₀ out i at = (i ≤ m) × (at ≡ 22 * i) × (length out ≡ length out₀) × (out ≡ over (columnsBytes (firstColumns ones zeros i)) 0 out₀)
+Inv-loop out₀ ones zeros m i₀ at₀ out i at =
+    (i ≤ m) × (at ≡ 22 * i) × (length out ≡ length out₀) × (out ≡ over (columnsBytes (firstColumns ones zeros i)) 0 out₀)
 
 abbrev μ-loop : tie.MeasureT-loop
 μ-loop out₀ ones zeros m i₀ at₀ out i at = m - i
@@ -27,8 +28,8 @@ loop-again c =
     let l = put .before .before .before .before .before .loop in
     let start = put .before .before .before .before .before .before .before in
     let a = start .args in
-    let far = length-first (a .ones .now) (a .zeros .now) (l .i) (omega arith) (omega arith) in
-    let written = next _ _ _ _ _ (l .inv .3) (put .put-column .ensures) (omega arith) (omega (arith, length-columns (firstColumns (a .ones .now) (a .zeros .now) (l .i)))) in
+    let far = length-first-bytes (a .ones .now) (a .zeros .now) (l .i) (omega arith) (omega arith) in
+    let written = next _ _ _ _ _ (l .inv .3) (put .put-column .ensures) (omega arith) (omega arith) in
     (search needs, search needs, search needs, rw (first-next (a .ones .now) (a .zeros .now) (l .i) (omega arith) (omega arith)) written)
 
 returns : tie.Need-returns Inv-loop μ-loop

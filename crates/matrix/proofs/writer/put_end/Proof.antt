@@ -1,6 +1,6 @@
 -- `matrix::writer::put_end` meets its contract: the record has no payload.
 use borrow.Author.Needs.{needs}
-use Rattle.record.proofs.Over.{opening-only}
+use Rattle.record.proofs.Files.{opening-only}
 use Rattle.matrix.proofs.writer.put_end.Statement.{statement}
 use Rattle.matrix.proofs.writer.put_end.Tie as tie
 

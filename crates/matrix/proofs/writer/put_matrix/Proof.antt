@@ -3,7 +3,7 @@ use borrow.Author.Needs.{needs}
 use native.Mathlib.Omega.{arith}
 use lib.ListN.{length-append}
 use Rattle.record.proofs.Over.{next}
-use Rattle.matrix.proofs.Writing.{length-head, length-columns, length-first, file-flat}
+use Rattle.matrix.proofs.Writing.{length-head, length-first, length-first-bytes, file-flat}
 use Rattle.matrix.proofs.writer.put_matrix.Statement.{statement}
 use Rattle.matrix.proofs.writer.put_matrix.Tie as tie
 
@@ -14,8 +14,9 @@ returns c =
     let head = columns .before .before .before .before in
     let a = head .before .before .before .args in
     let m-is = length-first (a .ones .now) (a .zeros .now) (a .m) (omega arith) (omega arith) in
+    let far = length-first-bytes (a .ones .now) (a .zeros .now) (a .m) (omega arith) (omega arith) in
     let both = next _ _ _ _ _ (head .put-head .ensures) (columns .put-columns .ensures) (omega arith) (simp length-head) in
-    rw (file-flat, m-is) (next _ _ _ _ _ both (end .put-end .ensures) (omega arith) (simp (length-append, length-head, length-columns) (omega arith)))
+    rw (file-flat, m-is) (next _ _ _ _ _ both (end .put-end .ensures) (omega arith) (simp (length-append, length-head) (omega arith)))
 
 pub put-matrix-spec : {M : Type 1} → statement M
 put-matrix-spec =
