@@ -1,6 +1,6 @@
 -- Records as they are written: each is bytes where its content is (`record-file`), and how long it is (`length-record`).
 use mathlib.Core.Path.{_≡_}
-use mathlib.Core.List.{List, [], _∷_, _++_}
+use mathlib.Core.List.{List, [], _∷_, _++_, append-nil}
 use Prim.Native.Nat.{ℕ, zero, suc, _+_, _/_, _<_}
 use native.Mathlib.Omega.{arith}
 use lib.ListN.{length, getD, length-append}
@@ -32,6 +32,15 @@ pub record-file : (it : Record) {content : List ℕ} → File content → File (
 unfolding recordBytes openingOf
 record-file it f = join _ (join _ (number 2 (it .length)) (number 2 (it .kind))) f
 
+pub length-opening : (it : Record) → length (openingOf it) ≡ 4
+unfolding openingOf
+length-opening it = simp (length-append, length-bytes)
+
 pub length-record : (it : Record) (content : List ℕ) → length (recordBytes it content) ≡ 4 + length content
-unfolding recordBytes openingOf
-length-record it content = simp (length-append, length-bytes)
+unfolding recordBytes
+length-record it content = simp (length-append, length-opening)
+
+-- A record with no payload is its opening.
+pub opening-only : (it : Record) → recordBytes it [] ≡ openingOf it
+unfolding recordBytes
+opening-only it = append-nil (openingOf it)
