@@ -2,3 +2,4 @@
 pub mod Runs
 pub mod Names
 pub mod Book
+pub mod Finding
