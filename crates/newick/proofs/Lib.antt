@@ -1,4 +1,5 @@
 -- Reading source trees: what is proved.
 pub mod Runs
 pub mod Names
+pub mod Lists
 pub mod Book

@@ -1,4 +1,5 @@
 // Source trees in: a Newick text to a matrix file and a name list.
+mod list;
 mod scan;
 mod tokens;
 

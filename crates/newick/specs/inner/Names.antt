@@ -17,3 +17,7 @@ pub record Placed (text starts sizes : List ℕ) (n : ℕ) : Type 0 where
   pub sizes-room : length sizes ≡ 64
   pub few : n ≤ 64
   pub inside : (i : ℕ) → i < n → getD starts i 0 + getD sizes i 0 ≤ length text
+
+-- "names of 1 to 32": none of the first n is longer.
+abbrev pub Short : List ℕ → ℕ → Type 0
+Short sizes n = (i : ℕ) → i < n → getD sizes i 0 ≤ 32
