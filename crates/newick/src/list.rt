@@ -48,8 +48,9 @@ pub fn put_list(out: &mut [u8], text: &[u8], starts: &[usize; 64], sizes: &[usiz
 {
     let mut at: usize = 0;
     for i in 0usize..n {
-        put_name(&mut out[at..], text, starts[i], sizes[i]);
-        at += 4 + sizes[i];
+        let size = sizes[i];
+        put_name(&mut out[at..], text, starts[i], size);
+        at += 4 + size;
     }
     put_opening(&mut out[at..], Record::of(Record::NAMES_END));
 }
