@@ -2,14 +2,18 @@
 use mathlib.Core.Path.{_≡_, refl, sym, ap, _∙_}
 use mathlib.Core.List.{List, [], _∷_, _++_, map, append-assoc, append-nil}
 use Prim.Native.Nat.{ℕ, _^_, _≤_, _<_}
-use Rattle.taxa.specs.Sets.{count, low}
+use native.Mathlib.Decide.{ℕ-discrete}
+use native.Mathlib.Omega.{arith}
+use borrow.Author.Tests.{ne-eqb}
+use Rattle.taxa.specs.Sets.{_⊆_, _∖_, count, low}
+use Rattle.taxa.proofs.Members.{⊆-trans, ∖-⊆}
 use Rattle.grammar.specs.Bytes.{Sign, byte, left, right, comma, semicolon}
 use Rattle.grammar.specs.Trees.{Tree, Trees, leaf, inner, one, then, Token, word, sign, tokens, commas, file}
 use Rattle.grammar.specs.Writer.{plain, written}
-use Rattle.clades.specs.Draw.{bracket, joined, drawn, parts}
-use Rattle.clades.proofs.Drawing.{two-parts, drawn-taxon, drawn-group}
+use Rattle.clades.specs.Draw.{part, parts, bracket, joined, drawn}
+use Rattle.clades.proofs.Drawing.{none-left, parts-next, two-parts, drawn-taxon, drawn-group}
 use Rattle.spelling.specs.Write.{nameIn}
-use Rattle.spelling.specs.inner.Spell.{subtext, spelling, after, listed, partsText}
+use Rattle.spelling.specs.inner.Spell.{subtext, spelling, closing, after, listed, partsText}
 
 -- ---- tokens in front of others: their text stands in front of the text of the others
 
@@ -81,3 +85,20 @@ module _ (gs list : List ℕ) where
   group-text S s two =
       let (P, Q, Ps, e) = two-parts gs s two in
       rw (drawn-group (nameIn list) gs S s two, e) (joined-text (drawn (nameIn list) gs) P Q Ps)
+
+  pub parts-none : (S : ℕ) → partsText gs list S 0 ≡ []
+  unfolding listed
+  parts-none S = rw (none-left gs S 64)
+
+  module _ {S : ℕ} (s : S < 2 ^ 64) (two : 1 < count 64 S) where
+    parts-after : {R : ℕ} → R ⊆ S → after (parts gs S 64 R) ≡ closing R
+    parts-after {R} i = go (ℕ-discrete R 0)
+      where
+        go : Dec (R ≡ 0) → after (parts gs S 64 R) ≡ closing R
+        go (yes z) = rw (z, none-left gs S 64)
+        go (no n) = rw (parts-next gs s two i (omega arith), ne-eqb R 0 n)
+
+    -- The part of the lowest taxon that is left, the byte after it, and the parts that are left then.
+    pub parts-text-next : {R : ℕ} → R ⊆ S → 0 < R → (P : ℕ) → P ≡ part gs S (low 64 R) → partsText gs list S R ≡ spelling gs list P ++ closing (R ∖ P) ∷ partsText gs list S (R ∖ P)
+    unfolding listed
+    parts-text-next {R} i x P e = rw (parts-next gs s two i x, ← e, parts-after (⊆-trans (∖-⊆ R P) i))
