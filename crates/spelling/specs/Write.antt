@@ -9,6 +9,7 @@ use lib.ListN.{length, getD}
 use Rattle.taxa.specs.Sets.{all}
 use Rattle.record.specs.Bytes.{over}
 use Rattle.record.specs.Records.{refused}
+use Rattle.record.specs.declared.Cursor.{Cursor}
 use Rattle.record.specs.declared.Passed.{Passed}
 use Rattle.record.specs.declared.Passed.the-variants as passed
 use Rattle.answer.specs.Content.{contentIn}
@@ -75,6 +76,12 @@ returned (Refused why) = record { number = why .number; place = why .place; size
 -- The numbers that writing the two files returns.
 abbrev pub writeNumbers : List ℕ → List ℕ → ℕ → Returned
 writeNumbers answer list room = returned (spelled answer list room)
+
+-- Both files were read.
+pub record Readable (answer list : List ℕ) (count : ℕ) : Type 0 where
+  pub here : Cursor
+  pub passes : passed.At here ≡ fileTests answer
+  pub taken : lists.Taken count ≡ checked list
 
 -- What writing promises of its answer and of the output at the end.
 pub record Spells (answer list out : List ℕ) (r : Spelled) (out′ : List ℕ) : Type 0 where

@@ -4,11 +4,13 @@ use mathlib.Core.Bool.{cond}
 use mathlib.Core.List.{List, [], _∷_, _++_}
 use Prim.Native.Nat.{ℕ, _+_, _^_, _≤_, _<_}
 use lib.Dec.{eqb}
-use lib.ListN.{length}
+use lib.ListN.{length, take}
+use Rattle.taxa.specs.Sets.{all}
 use Rattle.record.specs.Bytes.{over}
+use Rattle.answer.specs.declared.Answer.{Answer}
 use Rattle.grammar.specs.Bytes.{byte, right, comma}
-use Rattle.grammar.specs.Trees.{Tree, tokens}
-use Rattle.grammar.specs.Writer.{plain}
+use Rattle.grammar.specs.Trees.{Tree, one, tokens}
+use Rattle.grammar.specs.Writer.{plain, written}
 use Rattle.clades.specs.Draw.{parts, drawn}
 use Rattle.names.specs.Check.{namesIn}
 use Rattle.spelling.specs.Write.{nameIn}
@@ -49,6 +51,22 @@ pub record Spellable (list : List ℕ) (S at : ℕ) (s text : List ℕ) : Type 0
   pub some : 0 < S
   pub named : S < 2 ^ length (namesIn list)
   pub room : at + length s ≤ length text
+
+-- The whole text of n taxa in groups.
+abbrev pub textFor : List ℕ → List ℕ → ℕ → List ℕ
+textFor gs list n = written (one (drawn (nameIn list) gs (all n)))
+
+-- The groups of an answer's value.
+abbrev pub groupsOf : Answer → List ℕ
+groupsOf a = take (a .groups) (a .taxa)
+
+-- A value of an answer, names for its taxa, and room for its text.
+pub record Tellable (a : Answer) (list text : List ℕ) : Type 0 where
+  pub placed : a .groups ≤ length (a .taxa)
+  pub some : 1 ≤ a .n
+  pub few : a .n ≤ 64
+  pub named : length (namesIn list) ≡ a .n
+  pub room : length (textFor (groupsOf a) list (a .n)) ≤ length text
 
 -- The text s was put at a place, and the end is right after it.
 pub record Put (s : List ℕ) (at : ℕ) (old new : List ℕ) (end : ℕ) : Type 0 where

@@ -61,7 +61,16 @@ module _ (t : ℕ) where
 
   abbrev parts-calls : parts-lts.Claims
   parts-calls = (
-    lowest-reads.Asked, lowest-reads.Learnt, part-of-reads.Asked, part-of-reads.Learnt, difference-reads.Asked, difference-reads.Learnt, spell-below, spell.Post, closing-reads.Asked, closing-reads.Learnt
+    lowest-reads.Asked,
+    lowest-reads.Learnt,
+    part-of-reads.Asked,
+    part-of-reads.Learnt,
+    difference-reads.Asked,
+    difference-reads.Learnt,
+    spell-below,
+    spell.Post,
+    closing-reads.Asked,
+    closing-reads.Learnt,
   )
 
   -- ---- spell: the way back from a call to what was known before it
