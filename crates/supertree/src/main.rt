@@ -5,7 +5,7 @@
 use libc::STDERR_FILENO;
 use libc::STDIN_FILENO;
 use libc::STDOUT_FILENO;
-use newick::Outcome;
+use newick::Derived;
 use record::Refusal;
 use spelling::Spelled;
 use tree::Built;
@@ -195,10 +195,10 @@ fn read_trees(text: &[u8])
     let mut names = [0; NAMES_ROOM];
     let outcome = newick::read(text, &mut matrix, &mut names);
     match outcome {
-        Outcome::Taken(matrix_size, names_size) => {
+        Derived::Taken(matrix_size, names_size) => {
             build_tree(written(&matrix, matrix_size), written(&names, names_size));
         }
-        Outcome::Refused(why) => tell_why(text, why),
+        Derived::Refused(why) => tell_why(text, why),
     }
 }
 
