@@ -1,5 +1,5 @@
 -- Reading a record: one law for each way a step can end (`no-opening` .. `payload-at`), what a taken step says of the file (`Held`, `held`,
--- `taken-bytes`), and that a record that stands in a file is taken (`record-taken`).
+-- `taken-bytes`), that a record that stands in a file is taken (`record-taken`), and which record starts at a place (`finds-none`, `finds-kind`).
 use mathlib.Core.Path.{_≡_, refl, sym, ap, _∙_}
 use mathlib.Core.Bool.{Bool, true, false, _&&_, cond}
 use mathlib.Core.List.{List, _++_, append-assoc}
@@ -8,9 +8,9 @@ use Prim.Native.Nat.{ℕ, _+_, _-_, _<_, _≤_}
 use native.Mathlib.Omega.{arith}
 use lib.Dec.{ltb, eqb, lit<, lit≤}
 use lib.ListN.{length, drop, length-append, length-drop}
-use borrow.Author.Tests.{lt-ltb, le-ltb, eq-eqb, ne-eqb, ltb-false, eqb-true}
+use borrow.Author.Tests.{lt-ltb, le-ltb, lt-leb, le-leb, eq-eqb, ne-eqb, ltb-false, eqb-true}
 use Rattle.record.specs.Bytes.{numberAt, bytesOf, File}
-use Rattle.record.specs.Records.{left, refused, step, openingOf, recordBytes, nothingAfter}
+use Rattle.record.specs.Records.{left, refused, step, openingOf, recordBytes, finds, nothingAfter}
 use Rattle.record.specs.declared.Cursor.{Cursor}
 use Rattle.record.specs.declared.Record.{Record}
 use Rattle.record.specs.declared.Step.{Step}
@@ -126,6 +126,16 @@ module _ (file content rest : List ℕ) (at : ℕ) (it : Record) (e : drop at fi
       (bytes-read 2 (it .kind) file (content ++ rest) (at + 2) k after-length)
       (bytes-read 2 (it .length) file (bytesOf 2 (it .kind) ++ (content ++ rest)) at l opened)
       (omega (arith, room))
+
+-- Which record starts at a place.
+module _ (file : List ℕ) (at kind : ℕ) where
+  pub finds-none : left file at < 4 → false ≡ finds file at kind
+  unfolding finds
+  finds-none h = rw (lt-leb _ _ h)
+
+  pub finds-kind : 4 ≤ left file at → eqb (numberAt 2 file (at + 2)) kind ≡ finds file at kind
+  unfolding finds
+  finds-kind h = rw (le-leb _ _ h)
 
 -- Past the end record.
 module _ (file : List ℕ) (here : Cursor) where

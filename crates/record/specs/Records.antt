@@ -1,12 +1,13 @@
 -- Records (document 01): "length (2 bytes, payload only), kind (2 bytes), payload". What reading one finds, and how one is written.
-use mathlib.Core.Bool.{_&&_, cond}
+use mathlib.Core.Bool.{Bool, _&&_, _||_, cond}
 use mathlib.Core.List.{List, _++_}
-use Prim.Native.Nat.{ℕ, _+_, _-_}
+use Prim.Native.Nat.{ℕ, _+_, _-_, _%_}
 use lib.ListN.{length}
-use lib.Dec.{ltb, eqb}
+use lib.Dec.{ltb, leb, eqb}
 use Rattle.record.specs.Bytes.{numberAt, bytesOf}
 use Rattle.record.specs.declared.Cursor.{Cursor}
 use Rattle.record.specs.declared.Record.{Record}
+use Rattle.record.specs.declared.Varying.{Varying}
 use Rattle.record.specs.declared.Refusal.{Refusal}
 use Rattle.record.specs.declared.Step.{Step}
 use Rattle.record.specs.declared.Step.the-variants.{Payload, Refused}
@@ -47,6 +48,14 @@ flips = 19
 abbrev pub answerEnd : ℕ
 answerEnd = 20
 
+-- "A name list (kind 33 per name, kind 34 to end)" (document 02, C-11).
+abbrev pub name : ℕ
+name = 33
+
+-- "Kind 34 to end".
+abbrev pub namesEnd : ℕ
+namesEnd = 34
+
 -- How many bytes the payload of a kind of document 01 has; the end records, and no others, have none.
 abbrev pub payload : ℕ → ℕ
 payload kind =
@@ -80,6 +89,22 @@ step file at expected =
     (cond (ltb (left file at - 4) (expected .length)) (Refused (refused 1 at))
     (Payload (at + 4) (record { at = at + 4 + expected .length })))
     (Refused (refused 2 at)))
+
+-- Whether a record's length may be this: the least, or a multiple of `by` more, up to the most.
+unfoldable pub allowed : Varying → ℕ → Bool
+allowed v l = eqb l (v .least) || (ltb (v .least) l && leb l (v .most) && eqb ((l - v .least) % v .by) 0)
+
+-- The record that is expected where a length stands: of that length if it is allowed, else of one that differs from it.
+abbrev pub varied : Varying → ℕ → Record
+varied v l = record { kind = v .kind; length = cond (allowed v l) l (v .least) }
+
+-- Reading a record whose length may vary: so "kind or length (2)" is told of every length that is not allowed.
+unfoldable pub varyingStep : List ℕ → ℕ → Varying → Step
+varyingStep file at v = step file at (varied v (numberAt 2 file at))
+
+-- Whether a record of a kind starts at a place: four bytes are left, and they say so.
+unfoldable pub finds : List ℕ → ℕ → ℕ → Bool
+finds file at kind = leb 4 (left file at) && eqb (numberAt 2 file (at + 2)) kind
 
 -- Of a step that was refused, why.
 abbrev pub refusalOf : Step → Refusal

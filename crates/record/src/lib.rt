@@ -6,7 +6,9 @@ pub mod writer;
 
 use number::u16_at;
 ghost use mathlib.Core.Path.{_≡_};
+ghost use Prim.Native.Nat.{_<_};
 ghost use Rattle.record.specs.Records.{recordOf, multiplicityRecord, left, step, refusalOf, passedRefusal, nothingAfter};
+ghost use Rattle.record.specs.Records.{allowed, varied, varyingStep, finds};
 
 // Why and where an input is refused: document 01's number and place.
 pub struct Refusal {
@@ -37,6 +39,10 @@ impl Record {
 
     pub const ANSWER_END: u16 = 20;
 
+    pub const NAME: u16 = 33;
+
+    pub const NAMES_END: u16 = 34;
+
     // The record of a kind, as long as document 01's table says; the end records, and no others of the table, have no payload.
     pub fn of(kind: u16) -> Self
         ensures { λ r. ⌜ r ≡ recordOf kind ⌝ }
@@ -59,6 +65,44 @@ impl Record {
         Record {
             kind: Self::MULTIPLICITIES,
             length: n,
+        }
+    }
+}
+
+// What a record says of itself whose length may vary: the least, or a multiple of `by` more, up to the most.
+pub struct Varying {
+    pub kind: u16,
+    pub least: u16,
+    pub most: u16,
+    pub by: u16,
+}
+
+impl Varying {
+    // Whether a length may stand there.
+    fn allows(self, length: u16) -> bool
+        requires { ⌜ 0 < self .by ⌝ }
+        ensures { λ r. ⌜ r ≡ allowed self length ⌝ }
+    {
+        if length <= self.least {
+            return length == self.least;
+        }
+        (length <= self.most) & ((length - self.least) % self.by == 0)
+    }
+
+    // The record that is expected where a length stands.
+    fn standing(self, length: u16) -> Record
+        requires { ⌜ 0 < self .by ⌝ }
+        ensures { λ r. ⌜ r ≡ varied self length ⌝ }
+    {
+        if self.allows(length) {
+            return Record {
+                kind: self.kind,
+                length,
+            };
+        }
+        Record {
+            kind: self.kind,
+            length: self.least,
         }
     }
 }
@@ -133,6 +177,32 @@ impl Cursor {
                 at: at + 4 + length,
             },
         )
+    }
+
+    // One reading step, of a record whose length may vary.
+    pub fn read_varying(self, file: &[u8], expected: Varying) -> Step
+        requires { ⌜ 0 < expected .by ⌝ }
+        ensures { λ r. ⌜ r ≡ varyingStep (now (file .entry)) (self .at) expected ⌝ }
+    {
+        let at = self.at;
+        if self.left(file) < 4 {
+            return Step::Refused(Refusal {
+                number: 1,
+                place: at,
+            });
+        }
+        self.read(file, expected.standing(u16_at(file, at)))
+    }
+
+    // Whether a record of a kind starts here.
+    pub fn finds(self, file: &[u8], kind: u16) -> bool
+        ensures { λ r. ⌜ r ≡ finds (now (file .entry)) (self .at) kind ⌝ }
+    {
+        let at = self.at;
+        if self.left(file) < 4 {
+            return false;
+        }
+        u16_at(file, at + 2) == kind
     }
 
     // Past the end record: nothing may follow.
