@@ -3,3 +3,5 @@ pub mod Putting
 pub mod Steps
 pub mod Lengths
 pub mod Accepted
+pub mod Whole
+pub mod Writing
