@@ -1,8 +1,10 @@
 -- Everything that is wrong with a text: what it breaks, read on regardless up to the byte that cannot stand there.
 use mathlib.Core.Bool.{cond}
-use mathlib.Core.List.{List, [], _∷_, _++_, map}
+use mathlib.Core.Path.{_≡_}
+use mathlib.Core.List.{List, [], _∷_, _++_, map, List·Memᴰ}
+use mathlib.Core.Logic.{_⊎_}
 use mathlib.Core.Option.{Option, none, some}
-use Prim.Native.Nat.{ℕ, suc, _+_, _-_, _*_, _≤_}
+use Prim.Native.Nat.{ℕ, suc, _-_, _≤_, _<_}
 use lib.Dec.{ltb}
 use lib.ListN.{length}
 use Rattle.grammar.specs.Bytes.{Mark, mark, blank, letter, wrong}
@@ -18,14 +20,10 @@ pub record Refusal : Type 0 where
 abbrev pub at : ℕ → List ℕ → List Refusal
 at p rs = map (λ r. record { number = r; place = p }) rs
 
--- "the first place decides, then the lower number" (all are below 32).
-abbrev pub rank : Refusal → ℕ
-rank f = 32 * f .place + f .number
-
--- Each refusal of the list is one of those that count from q on, and those after it count for more.
-pub data Rising : ℕ → List Refusal → Type 0 where
-  done : {q : ℕ} → Rising q []
-  also : (q : ℕ) (f : Refusal) {fs : List Refusal} → q ≤ rank f → Rising (suc (rank f)) fs → Rising q (f ∷ fs)
+-- Of these faults f is the first: "the first place decides, then the lower number".
+pub record FirstOf (fs : List Refusal) (f : Refusal) : Type 0 where
+  pub one : List·Memᴰ f fs
+  pub first : (g : Refusal) → List·Memᴰ g fs → (f .place < g .place) ⊎ ((f .place ≡ g .place) × (f .number ≤ g .number))
 
 -- "or the file's end".
 abbrev pub endFaults : Outcome → List Refusal

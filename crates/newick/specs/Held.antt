@@ -1,0 +1,53 @@
+-- What people hold: a text of source trees, and the matrix file and the name list that reading leaves.
+use mathlib.Core.Path.{_≡_}
+use mathlib.Core.List.{List, List·Memᴰ}
+use mathlib.Core.Logic.{_↔_}
+use Prim.Native.Nat.{ℕ}
+use lib.ListN.{length, take}
+use Rattle.taxa.specs.Sets.{_∈_}
+use Rattle.grammar.specs.Trees.{Trees}
+use Rattle.grammar.specs.Text.{Newick}
+use Rattle.grammar.specs.Columns.{Bytes, Column, allColumns}
+use Rattle.grammar.specs.Limits.{taxa, Within}
+use Rattle.matrix.specs.Matrix.{Matrix, fileOf}
+use Rattle.matrix.specs.declared.Column as matrix
+use Rattle.names.specs.Names.{listOf}
+use Rattle.newick.specs.declared.Read.{Read}
+use Rattle.newick.specs.Read.{matrixFor, returned, Reads}
+
+-- The source trees of a text: it spells them, and they are within the limits.
+pub record SourceTrees (text : List ℕ) (ts : Trees) : Type 0 where
+  pub spelt : Newick text ts
+  pub within : Within ts
+
+-- The matrix of source trees: their taxa, their columns.
+abbrev pub matrixOfTrees : Trees → Matrix
+matrixOfTrees ts = matrixFor (taxa ts) (allColumns ts)
+
+-- Its file has so many bytes.
+abbrev pub matrixRoom : Trees → ℕ
+matrixRoom ts = length (fileOf (matrixOfTrees ts))
+
+-- And the list of their names.
+abbrev pub namesRoom : Trees → ℕ
+namesRoom ts = length (listOf (taxa ts))
+
+-- Reading took a text, "success returns 0", and these bytes are what it wrote: as many of each output as the length that it returned.
+pub record Leaves (text matrix names : List ℕ) : Type 0 where
+  pub matrix-output : List ℕ
+  pub names-output : List ℕ
+  pub r : Read
+  pub matrix-output′ : List ℕ
+  pub names-output′ : List ℕ
+  pub reads : Reads text matrix-output names-output r matrix-output′ names-output′
+  pub success : returned r .number ≡ 0
+  pub matrix-bytes : matrix ≡ take (returned r .matrix) matrix-output′
+  pub names-bytes : names ≡ take (returned r .names) names-output′
+
+-- What a column of a matrix says of taxon i, whose name it is, about a vertex of a source tree, "as source document 001 has it": "Entry '1' indicates that
+-- the corresponding taxon is a leaf of the subtree rooted in the inner node, whereas all other taxa are encoded '0'. The state of taxa that are not part of
+-- the input tree is unknown".
+pub record Encodes (i : ℕ) (name : Bytes) (c : matrix.Column) (vertex : Column) : Type 0 where
+  pub one : i ∈ c .ones ↔ List·Memᴰ name (vertex .ones)
+  pub zero : i ∈ c .zeros ↔ (List·Memᴰ name (vertex .tree) × (List·Memᴰ name (vertex .ones) → ⊥))
+  pub unknown : ((i ∈ c .ones → ⊥) × (i ∈ c .zeros → ⊥)) ↔ (List·Memᴰ name (vertex .tree) → ⊥)
