@@ -4,3 +4,6 @@ pub mod Walking
 pub mod Judging
 pub mod Passing
 pub mod Turns
+pub mod Taken
+pub mod Encoding
+pub mod Checking

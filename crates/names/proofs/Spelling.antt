@@ -6,11 +6,12 @@ use mathlib.Core.List.{List, [], _∷_}
 use mathlib.Core.Logic.{_≢_}
 use Prim.Native.Nat.{ℕ, suc, _+_, _≤_, _<_}
 use native.Mathlib.Numerals.{add-one}
+use native.Mathlib.Decide.{decLt}
 use native.Mathlib.Omega.{arith}
 use lib.Dec.{eqb}
 use lib.ListN.{length, getD, drop, drop-of-length-le}
 use lib.Seq.{drop-cons}
-use borrow.Author.Tests.{ne-eqb, leb-true, eqb-true}
+use borrow.Author.Tests.{ne-eqb, le-leb, lt-leb}
 use Rattle.grammar.specs.Bytes.{Mark, mark, blank, letter, wrong, sign, byte, left, right, comma, semicolon, isBlank, isLetter}
 use Rattle.grammar.specs.Columns.{Bytes}
 use Rattle.grammar.specs.Text.{Name, only, more}
@@ -51,6 +52,15 @@ marked-letter b e = go (isLetter b) refl
     go : (l : Bool) → isLetter b ≡ l → l ≡ true
     go true h = refl
     go false h = absurd (true≢false (ap is-letter (sym e) ∙ other-marked b h))
+
+-- No number that is no byte is a letter.
+no-byte : (b : ℕ) → 256 ≤ b → isLetter b ≡ false
+no-byte b h =
+    rw (le-leb 65 b (omega arith), lt-leb b 90 (omega arith), le-leb 97 b (omega arith), lt-leb b 122 (omega arith), le-leb 48 b (omega arith), lt-leb b 57 (omega arith))
+    (rw (ne-eqb b 46 (λ e. omega arith), ne-eqb b 45 (λ e. omega arith), ne-eqb b 95 (λ e. omega arith)))
+
+pub letter-small : (b : ℕ) → isLetter b ≡ true → b < 256
+letter-small b h = elim (decLt b 256) [ yes l ↦ l | no nl ↦ absurd (true≢false (sym h ∙ no-byte b (omega arith))) ]
 
 -- ---- names
 

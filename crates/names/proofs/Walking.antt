@@ -7,7 +7,7 @@ use Prim.Native.Nat.{ℕ, zero, suc, _+_, _-_, _*_, _≤_, _<_}
 use native.Mathlib.Nat.{suc-add}
 use native.Mathlib.Numerals.{sub-one}
 use native.Mathlib.Omega.{arith}
-use lib.ListN.{getD, take, drop}
+use lib.ListN.{length, getD, take, drop}
 use Rattle.grammar.specs.Columns.{Bytes}
 use Rattle.grammar.specs.Limits.{equal, isIn}
 use Rattle.record.specs.Bytes.{numberAt}
@@ -39,6 +39,11 @@ module _ (file : List ℕ) where
   place-one zero at h = absurd (omega arith)
   place-one (suc k) at h = rw (sub-one (suc k))
 
+  pub place-none : (k at : ℕ) → k ≤ 0 → placeFrom file k at ≡ at
+  unfolding placeFrom
+  place-none zero at h = refl
+  place-none (suc k) at h = absurd (omega arith)
+
   pub names-more : (k at : ℕ) → namesFrom file (k + 1) at ≡ namesFrom file k at ++ nameAt file (placeFrom file k at) ∷ []
   unfolding namesFrom placeFrom
   names-more zero at = refl
@@ -54,6 +59,11 @@ module _ (file : List ℕ) where
   unfolding placeFrom
   place-grows zero at = omega arith
   place-grows (suc k) at = omega (arith, place-grows k (after file at))
+
+  pub length-names : (k at : ℕ) → length (namesFrom file k at) ≡ k
+  unfolding namesFrom
+  length-names zero at = refl
+  length-names (suc k) at = ap suc (length-names k (after file at))
 
   pub name-from : (k at i : ℕ) → i < k → getD (namesFrom file k at) i [] ≡ nameAt file (placeFrom file i at)
   unfolding namesFrom placeFrom
