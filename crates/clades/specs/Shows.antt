@@ -11,6 +11,7 @@ use Rattle.grammar.specs.Columns.{Bytes}
 abbrev pub NestedOrDisjoint : ℕ → ℕ → Type 0
 NestedOrDisjoint X Y = X ⊆ Y ⊎ (Y ⊆ X ⊎ Disjoint X Y)
 
+-- So are any two of these groups.
 pub record Laminar (gs : List ℕ) : Type 0 where
   pub pair : {X Y : ℕ} → List·Memᴰ X gs → List·Memᴰ Y gs → NestedOrDisjoint X Y
 

@@ -13,10 +13,12 @@ use Rattle.grammar.specs.Trees.{Token, word, sign}
 use Rattle.grammar.specs.Reader.{State, before, naming, after, step, Outcome, trees, refused, ending}
 use Rattle.grammar.specs.Verdict.{tooLong}
 
+-- A refusal has a number and a place.
 pub record Refusal : Type 0 where
   pub number : ℕ
   pub place : ℕ
 
+-- These numbers, all at the place p.
 abbrev pub at : ℕ → List ℕ → List Refusal
 at p rs = map (λ r. record { number = r; place = p }) rs
 
@@ -38,30 +40,34 @@ module _ {T : Type 0} (wrongs : T → Token → List ℕ) (keep : T → Token �
   nameFaults p (naming d fs n) x = cond (ltb 32 (length n)) [] (at (p - length n) (wrongs x (word n)))
   nameFaults p (after d fs t) x = []
 
+  -- What is kept after it.
   unfoldable pub kept : State → T → T
   kept (before d fs) x = x
   kept (naming d fs n) x = keep x (word n)
   kept (after d fs t) x = x
 
-  -- At a byte: what its place ends, what it is itself, and what is kept after it.
+  -- At a byte: "17 name too long, at its 33rd byte", or what is wrong with the name that ends before it.
   abbrev pub ending-there : ℕ → State → T → Mark → List Refusal
   ending-there p σ x letter = cond (tooLong σ) (at p (17 ∷ [])) []
   ending-there p σ x blank = nameFaults p σ x
   ending-there p σ x wrong = nameFaults p σ x
   ending-there p σ x (bytes.sign g) = nameFaults p σ x
 
+  -- What the byte's own token breaks.
   abbrev pub itself : State → T → Mark → List ℕ
   itself σ x letter = []
   itself σ x blank = []
   itself σ x wrong = []
   itself σ x (bytes.sign g) = wrongs (kept σ x) (sign g)
 
+  -- What is kept after it.
   abbrev pub then-kept : State → T → Mark → T
   then-kept σ x letter = x
   then-kept σ x blank = kept σ x
   then-kept σ x wrong = kept σ x
   then-kept σ x (bytes.sign g) = keep (kept σ x) (sign g)
 
+  -- The text s from the place p on: nothing is read past a byte that cannot stand there.
   unfoldable pub faults : ℕ → State → T → List ℕ → List Refusal
   faults p σ x [] = nameFaults p σ x ++ endFaults (ending p σ)
   faults p σ x (b ∷ s) =

@@ -14,6 +14,7 @@ mutual
     one : Tree → Trees
     then : Trees → Tree → Trees
 
+-- What a text is made of, blanks aside: names and signs.
 pub data Token : Type 0 where
   word : List ℕ → Token
   sign : Sign → Token

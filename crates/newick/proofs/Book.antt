@@ -175,21 +175,21 @@ module _ {text : List ℕ} {k : Book} {r : Reading} (h : Holds text k r) where
 
       pub left-taken : r .depth < 64
           → Holds text (withBrackets k (cladePut (k .ones) (r .columns) (r .opened) 0) (set (k .index) (r .depth) (r .opened)) (set (k .before) (r .depth) (r .here)) (set (k .filled) (r .depth) false)) (record {
-        at = next;
-        ended = false;
-        finished = r .finished;
-        taxa = r .taxa;
-        columns = r .columns;
-        here = r .here;
-        opened = r .opened + 1;
-        depth = r .depth + 1;
-      })
+            at = next;
+            ended = false;
+            finished = r .finished;
+            taxa = r .taxa;
+            columns = r .columns;
+            here = r .here;
+            opened = r .opened + 1;
+            depth = r .depth + 1;
+          })
       unfolding wrongs keep
       left-taken l =
           let b = h .bracketed in
           let few : length (take (r .columns) (k .ones)) ≡ r .columns = columns-there in
           let goes-on : note (ledgerIn text k r) (sign left) ≡ goes (opening (ledgerIn text k r)) =
-              rw (few, le-ltb 256 (r .columns + r .opened) fit, length-brackets (k .index) (k .before) (r .depth), le-ltb 63 (r .depth) (omega arith))
+          rw (few, le-ltb 256 (r .columns + r .opened) fit, length-brackets (k .index) (k .before) (r .depth), le-ltb 63 (r .depth) (omega arith))
           in
           let stands = opens (at-subtree subtree) (s .inside) (s .is) goes-on in
           record {
@@ -203,8 +203,8 @@ module _ {text : List ℕ} {k : Book} {r : Reading} (h : Holds text k r) where
               columns-fit = b .columns-fit;
               clades-fit = omega arith;
               has-opened = one-further (λ j. getD (set (k .index) (r .depth) (r .opened)) j 0 < r .opened + 1)
-              (λ j i. rw (getD-set-other (k .index) (r .depth) j (r .opened) 0 (λ e. absurd (omega arith))) (omega (arith, b .has-opened j i)))
-              (rw (getD-set-same (k .index) (r .depth) (r .opened) 0 (omega (arith, b .index-room))) (omega arith));
+                  (λ j i. rw (getD-set-other (k .index) (r .depth) j (r .opened) 0 (λ e. absurd (omega arith))) (omega (arith, b .has-opened j i)))
+                  (rw (getD-set-same (k .index) (r .depth) (r .opened) 0 (omega (arith, b .index-room))) (omega arith));
             };
             zeros-room = h .zeros-room;
             stands = rw (← s .after, filled-more (k .filled) false (r .depth) (r .depth + 1) refl (omega (arith, b .filled-room)), columns-kept (k .ones) (r .columns) (r .opened) 0, brackets-more (k .index) (k .before) (r .opened) (r .here) (r .depth) (r .depth + 1) refl (omega (arith, b .index-room)) (omega (arith, b .before-room)), more-less (r .opened), clades-more (k .ones) (r .columns) (r .opened) (omega (arith, b .ones-room)), one-up (r .opened)) stands;
@@ -222,15 +222,15 @@ module _ {text : List ℕ} {k : Book} {r : Reading} (h : Holds text k r) where
 
       pub right-taken : getD (k .filled) last false ≡ true
           → Holds text (withBrackets k (cladePut (k .ones) (r .columns) (getD (k .index) last 0) (r .here ∖ getD (k .before) last 0)) (k .index) (k .before) (k .filled)) (record {
-        at = next;
-        ended = true;
-        finished = r .finished;
-        taxa = r .taxa;
-        columns = r .columns;
-        here = r .here;
-        opened = r .opened;
-        depth = last;
-      })
+            at = next;
+            ended = true;
+            finished = r .finished;
+            taxa = r .taxa;
+            columns = r .columns;
+            here = r .here;
+            opened = r .opened;
+            depth = last;
+          })
       unfolding wrongs keep
       right-taken f =
           let b = h .bracketed in
@@ -251,7 +251,7 @@ module _ {text : List ℕ} {k : Book} {r : Reading} (h : Holds text k r) where
             };
             zeros-room = h .zeros-room;
             stands = rw (← s .after, columns-kept (k .ones) (r .columns) i clade, clade-set (k .ones) (r .columns) (r .opened) i clade (b .has-opened last (omega arith)))
-            (closes at-last (s .inside) (s .is) refl);
+                (closes at-last (s .inside) (s .is) refl);
           }
 
   -- A semicolon.
@@ -263,15 +263,15 @@ module _ {text : List ℕ} {k : Book} {r : Reading} (h : Holds text k r) where
     pub semicolon-taken : (zeros : List ℕ) (end : ℕ) → r .depth ≡ 0 → end ≡ r .columns + (r .opened - 1) → length zeros ≡ 256
         → take end zeros ≡ take (r .columns) (k .zeros) ++ map (λ c. r .here ∖ c) (take (end - r .columns) (drop (r .columns) (k .ones)))
         → Holds text (withColumns k (k .ones) zeros) (record {
-      at = next;
-      ended = false;
-      finished = true;
-      taxa = r .taxa;
-      columns = end;
-      here = 0;
-      opened = 0;
-      depth = 0;
-    })
+          at = next;
+          ended = false;
+          finished = true;
+          taxa = r .taxa;
+          columns = end;
+          here = 0;
+          opened = 0;
+          depth = 0;
+        })
     unfolding wrongs keep filledIn bracketsIn
     semicolon-taken zeros end e f room new =
         let b = h .bracketed in

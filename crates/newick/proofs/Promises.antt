@@ -131,7 +131,7 @@ module _ {text matrix names : List ℕ} (l : Leaves text matrix names) where
         let (t, e) = matrix-taken in
         let listed : j < length (matrixOf matrix .columns) = omega (arith, ap (λ (M : Matrix). length (M .columns)) e, length-columns s) in
         let column : columnIn matrix j ≡ columnOf (taxa ts) c = sym (column-of matrix j (columnOf (taxa ts) d) listed)
-            ∙ ap (λ (M : Matrix). getD (M .columns) j (columnOf (taxa ts) d)) e ∙ List·getD-map (columnOf (taxa ts)) (allColumns ts) j d in
+        ∙ ap (λ (M : Matrix). getD (M .columns) j (columnOf (taxa ts) d)) e ∙ List·getD-map (columnOf (taxa ts)) (allColumns ts) j d in
         rw (column, list-taken .1) (encoded s c (in-list (allColumns ts) j d l) i h)
 
 -- ---- room
@@ -169,3 +169,22 @@ one-text l k =
     let (m, n) = leaves-files l s in
     let (m′, n′) = leaves-files k s in
     (m ∙ sym m′, n ∙ sym n′)
+
+-- ---- the numbers that are returned (document 01)
+
+-- "success returns 0", and only success does.
+pub reading-trees-succeeds : {text matrix names : List ℕ} {r : Read} {matrix′ names′ : List ℕ} → Reads text matrix names r matrix′ names′
+    → (returned r .number ≡ 0) ↔ ((a : ℕ) × (b : ℕ) × (r ≡ Taken a b))
+reading-trees-succeeds {text} {matrix} {names} {r} x = (λ e. go (comes text (length matrix) (length names)) (x .answers) e, λ (a, b, e). ap numberOf e)
+  where
+    go : {q : Read} → Comes text (length matrix) (length names) q → r ≡ q → numberOf r ≡ 0 → (a : ℕ) × (b : ℕ) × (r ≡ Taken a b)
+    go (taken ts s a b) e z = (matrixRoom ts, namesRoom ts, e)
+    go (short ts s a) e z = absurd (omega (arith, ap numberOf e))
+    go (faulty number place f) e z = absurd (omega (arith, ap numberOf e, refused-known text f .0))
+
+-- "A refusal returns its number and place, 0 for every other number, and changes no lent memory."
+pub refused-reading-trees : {text matrix names : List ℕ} {r : Read} {matrix′ names′ : List ℕ} → Reads text matrix names r matrix′ names′ → returned r .number ≢ 0
+    → (returned r .matrix ≡ 0) × (returned r .names ≡ 0) × (matrix′ ≡ matrix) × (names′ ≡ names)
+unfolding outputAfter
+refused-reading-trees {r = Taken a b} x some = absurd (some refl)
+refused-reading-trees {r = Refused why} x some = (refl, refl, x .matrix-output, x .names-output)

@@ -4,7 +4,7 @@ use mathlib.Core.List.{List, List·Memᴰ}
 use mathlib.Core.Logic.{_↔_}
 use Prim.Native.Nat.{ℕ}
 use lib.ListN.{length, take}
-use Rattle.taxa.specs.Sets.{_∈_}
+use Rattle.taxa.specs.Sets.{_∈_, _∉_}
 use Rattle.grammar.specs.Trees.{Trees}
 use Rattle.grammar.specs.Text.{Newick}
 use Rattle.grammar.specs.Columns.{Bytes, Column, allColumns}
@@ -44,10 +44,11 @@ pub record Leaves (text matrix names : List ℕ) : Type 0 where
   pub matrix-bytes : matrix ≡ take (returned r .matrix) matrix-output′
   pub names-bytes : names ≡ take (returned r .names) names-output′
 
--- What a column of a matrix says of taxon i, whose name it is, about a vertex of a source tree, "as source document 001 has it": "Entry '1' indicates that
--- the corresponding taxon is a leaf of the subtree rooted in the inner node, whereas all other taxa are encoded '0'. The state of taxa that are not part of
--- the input tree is unknown".
+-- What column c says of taxon i, by its name and by the vertex that gave the column, "as source document 001 has it".
 pub record Encodes (i : ℕ) (name : Bytes) (c : matrix.Column) (vertex : Column) : Type 0 where
+  -- "Entry '1' indicates that the corresponding taxon is a leaf of the subtree rooted in the inner node,
   pub one : i ∈ c .ones ↔ List·Memᴰ name (vertex .ones)
+  -- whereas all other taxa are encoded '0'.
   pub zero : i ∈ c .zeros ↔ (List·Memᴰ name (vertex .tree) × (List·Memᴰ name (vertex .ones) → ⊥))
-  pub unknown : ((i ∈ c .ones → ⊥) × (i ∈ c .zeros → ⊥)) ↔ (List·Memᴰ name (vertex .tree) → ⊥)
+  -- The state of taxa that are not part of the input tree is unknown".
+  pub unknown : (i ∉ c .ones × i ∉ c .zeros) ↔ (List·Memᴰ name (vertex .tree) → ⊥)

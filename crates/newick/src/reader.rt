@@ -8,12 +8,11 @@ ghost use Rattle.newick.specs.inner.Book.{Book, Holds, Leads};
 use super::Reading;
 use super::Stepped;
 use super::scan::after_blanks;
-use super::tokens::take_token;
 use super::tokens::refused;
+use super::tokens::take_token;
 
 // The same place, past the blanks that stand there.
-fn past_blanks(text: &[u8], from: Reading) -> Reading
-{
+fn past_blanks(text: &[u8], from: Reading) -> Reading {
     Reading {
         at: after_blanks(text, from.at),
         ended: from.ended,
@@ -27,8 +26,7 @@ fn past_blanks(text: &[u8], from: Reading) -> Reading
 }
 
 // The text ends here: it may, behind a tree.
-fn take_end(from: Reading) -> Stepped
-{
+fn take_end(from: Reading) -> Stepped {
     if from.ended {
         return refused(16, from.at);
     }
@@ -48,8 +46,7 @@ pub fn read_text(
     sizes: &mut [usize; 64],
     ones: &mut [u64; 256],
     zeros: &mut [u64; 256],
-) -> Stepped
-{
+) -> Stepped {
     let mut index = [0usize; 64];
     let mut before = [0u64; 64];
     let mut filled = [false; 64];

@@ -232,12 +232,7 @@ fn columns_with(from: Reading) -> usize
 }
 
 // A semicolon: a tree is finished, and its clades are columns.
-fn take_semicolon(
-    ones: &[u64; 256],
-    zeros: &mut [u64; 256],
-    from: Reading,
-    next: usize,
-) -> Stepped
+fn take_semicolon(ones: &[u64; 256], zeros: &mut [u64; 256], from: Reading, next: usize) -> Stepped
     requires { ⌜
         (length (now ones) ≡ 256) × (length (now zeros) ≡ 256) × (from .columns ≤ 256) × (from .columns + from .opened ≤ 257) ⌝ }
     ensures { λ s. ⌜
@@ -274,8 +269,7 @@ pub fn take_token(
     before: &mut [u64; 64],
     filled: &mut [bool; 64],
     from: Reading,
-) -> Stepped
-{
+) -> Stepped {
     let at = from.at;
     let b = text[at];
     if from.ended {

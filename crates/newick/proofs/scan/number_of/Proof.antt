@@ -31,11 +31,10 @@ returns c =
 loop-again : tie.Need-loop-again Inv-loop μ-loop
 loop-again c =
     let l = c .before .before .before .before .before .loop in
-    let a = c .before .before .before .before .before .before .before .args in
-    (
+    let a = c .before .before .before .before .before .before .before .args in (
       search needs,
       one-further (λ j. equal (piece (a .text .now) (a .at) (a .size)) (piece (a .text .now) (getD (a .starts .now) j 0) (getD (a .sizes .now) j 0)) ≡ false) (l .inv .1)
-      (sym (c .before .same-names .ensures) ∙ c .if1 .left),
+          (sym (c .before .same-names .ensures) ∙ c .if1 .left),
     )
 
 returns-2 : tie.Need-returns-2 Inv-loop μ-loop
