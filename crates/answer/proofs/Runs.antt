@@ -6,11 +6,11 @@ use native.Mathlib.Nat.{mul-zero, add-zero}
 use native.Mathlib.Numerals.{add-one}
 use native.Mathlib.Omega.{arith}
 use lib.ListN.{length, getD, take, drop, set, length-append, List·getD-append}
-use lib.Seq.{set-split, append-snoc, getD-at, take-at, ext-getD}
+use lib.Seq.{getD-at, take-at, ext-getD}
 use borrow.Author.Count.{below-more}
 use Rattle.record.specs.Bytes.{over}
 use Rattle.record.proofs.Numbers.{past}
-use Rattle.record.proofs.Over.{onto, length-over}
+use Rattle.record.proofs.Over.{one, onto, length-over}
 use Rattle.answer.specs.Content.{run, numbersOf}
 
 pub run-more : (piece : ℕ → List ℕ) (k : ℕ) → run piece (k + 1) ≡ run piece k ++ piece k
@@ -77,10 +77,6 @@ entries-are g k xs n e =
     ext-getD 0 (numbersOf g k) xs (length-entries g k ∙ sym n) (λ i l. let l′ : i < k = omega (arith, length-entries g k) in entry g k i l′ ∙ e i l′)
 
 -- ---- over lent room
-
-one : (v a : ℕ) (xs : List ℕ) → a < length xs → set xs a v ≡ over (v ∷ []) a xs
-unfolding over
-one v a xs h = rw (set-split xs a v h, append-snoc (take a xs) v (drop (a + 1) xs), add-one a)
 
 -- One entry more, stored right after those before it.
 pub store-next : (g : ℕ → ℕ) (i : ℕ) {v : ℕ} (xs : List ℕ) → v ≡ g i → i < length xs → set (over (numbersOf g i) 0 xs) i v ≡ over (numbersOf g (i + 1)) 0 xs

@@ -1,16 +1,16 @@
 -- The text of a tree that shows an answer's groups reads back to that tree (`reads-back`), whose clades of names are the groups (`clade-group`, `group-clade` of Clades).
-use mathlib.Core.Path.{_≡_, refl, sym, subst}
-use mathlib.Core.List.{List, [], _∷_, List·Memᴰ, List·Memᴰ·not-nil}
-use Prim.Native.Nat.{ℕ, _^_, _≤_, _<_}
+use mathlib.Core.Path.{_≡_, sym, subst}
+use mathlib.Core.List.{List, [], List·Memᴰ·not-nil}
+use Prim.Native.Nat.{ℕ, _≤_}
 use native.Mathlib.Omega.{arith}
 use lib.ListN.{length}
-use Rattle.taxa.specs.Sets.{_∈_, _⊆_, Disjoint, count, all}
+use Rattle.taxa.specs.Sets.{all}
 use Rattle.taxa.proofs.Members.{none, ⊆-refl, all-fits}
 use Rattle.taxa.proofs.Counts.{count-le}
 use Rattle.grammar.specs.Trees.{Tree, one}
 use Rattle.grammar.specs.Text.{Name}
-use Rattle.grammar.specs.Columns.{Bytes, names, allNames, clades, columns, allColumns}
-use Rattle.grammar.specs.Limits.{seen, taxa, depth, Within}
+use Rattle.grammar.specs.Columns.{Bytes, names, allNames, columns, allColumns}
+use Rattle.grammar.specs.Limits.{taxa, depth, Within}
 use Rattle.grammar.specs.Limits as limits
 use Rattle.grammar.specs.Verdict.{accepted}
 use Rattle.grammar.specs.Clerk.{outcome}
@@ -19,15 +19,10 @@ use Rattle.grammar.proofs.Lists.{seen-most}
 use Rattle.grammar.proofs.Tallies.{between, columns-few}
 use Rattle.grammar.proofs.Writing.{Named}
 use Rattle.grammar.proofs.Reading.{written-reads}
-use Rattle.clades.specs.Shows.{Differ, Laminar, Shows}
-use Rattle.clades.proofs.Clades.{Names, shown-names}
+use Rattle.clades.specs.Shows.{Laminar, Shows}
+use Rattle.clades.specs.Clades.{NamesFor, Names}
+use Rattle.clades.proofs.Clades.{shown-names}
 use Rattle.clades.proofs.Sizes.{sizes, distinct}
-
--- Names for taxa: each is a name of at most 32 bytes.
-pub record NamesFor (name : ℕ → Bytes) (A : ℕ) : Type 0 where
-  pub is-name : {i : ℕ} → i ∈ A → Name (name i)
-  pub short : {i : ℕ} → i ∈ A → length (name i) ≤ 32
-  pub differ : Differ name A
 
 module _ {name : ℕ → Bytes} {gs : List ℕ} {n : ℕ} {t : Tree} (few : n ≤ 64) (lam : Laminar gs) (list : NamesFor name (all n)) (shows : Shows name gs (all n) t) where
   nothing : Names name 0 []

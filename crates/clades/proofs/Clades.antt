@@ -4,25 +4,13 @@ use mathlib.Core.Logic.{_⊎_, inl, inr, ⊎-elim}
 use mathlib.Core.List.{List, [], _∷_, _++_, List·Memᴰ, List·Memᴰ·head, List·Memᴰ·tail, List·Memᴰ·not-nil, List·Memᴰ·cases-cons, List·Memᴰ·append-cases, List·Memᴰ·eq-of-singleton, Memᴰ·append-left, Memᴰ·append-right}
 use Prim.Native.Nat.{ℕ, _^_}
 use native.Mathlib.Decide.{ℕ-discrete}
-use Rattle.taxa.specs.Sets.{_∈_, _∉_, _⊆_, Disjoint, _∪_, _∖_}
-use Rattle.taxa.proofs.Members.{in∪, in∖, ∪-⊆, ⊆-refl, ⊆-trans, in-pow, pow-in, pow-⊆}
-use Rattle.grammar.specs.Trees.{Tree, Trees, leaf, inner, one, then}
+use Rattle.taxa.specs.Sets.{_∈_, _⊆_, _∪_}
+use Rattle.taxa.proofs.Members.{in∪, ⊆-refl, ⊆-trans, in-pow, pow-in}
+use Rattle.grammar.specs.Trees.{Tree, Trees, inner}
 use Rattle.grammar.specs.Columns.{Bytes, names, allNames, clades, allClades}
-use Rattle.clades.specs.Shows.{NestedOrDisjoint, Laminar, Lowest, Part, Shows, taxon, group, Row, first, next}
+use Rattle.clades.specs.Shows.{Laminar, Shows, taxon, group, Row, first, next}
+use Rattle.clades.specs.Clades.{Names, OfGroup, HasClade}
 use Rattle.clades.proofs.Parts.{in-part}
-
--- The list has the names of the taxa of S, and no others.
-pub record Names (name : ℕ → Bytes) (S : ℕ) (ns : List Bytes) : Type 0 where
-  pub has : {i : ℕ} → i ∈ S → List·Memᴰ (name i) ns
-  pub only : {n : Bytes} → List·Memᴰ n ns → (i : ℕ) × i ∈ S × (n ≡ name i)
-
--- A list of names is that of a group inside S.
-abbrev pub OfGroup : (ℕ → Bytes) → List ℕ → ℕ → List Bytes → Type 0
-OfGroup name gs S c = (G : ℕ) × List·Memᴰ G gs × G ⊆ S × Names name G c
-
--- A list of clades has that of G.
-abbrev pub HasClade : (ℕ → Bytes) → ℕ → List (List Bytes) → Type 0
-HasClade name G cs = (c : List Bytes) × List·Memᴰ c cs × Names name G c
 
 module _ {name : ℕ → Bytes} where
   pub names-∪ : {X Y : ℕ} {ns ms : List Bytes} → Names name X ns → Names name Y ms → Names name (X ∪ Y) (ns ++ ms)

@@ -1,18 +1,18 @@
 -- Only one tree shows a group (`only`): an answer and a name list have one text.
-use mathlib.Core.Path.{_≡_, refl, sym, ap, _∙_, subst}
-use mathlib.Core.Logic.{_⊎_, inl, inr, ⊎-elim}
+use mathlib.Core.Path.{_≡_, sym, ap, _∙_, subst}
+use mathlib.Core.Logic.{inl}
 use mathlib.Core.List.{List, List·Memᴰ}
-use Prim.Native.Nat.{ℕ, zero, suc, _+_, _^_, _≤_, _<_}
-use native.Mathlib.Decide.{decLt, ℕ-discrete}
+use Prim.Native.Nat.{ℕ, zero, suc, _^_, _≤_, _<_}
+use native.Mathlib.Decide.{decLt}
 use native.Mathlib.Omega.{arith}
-use Rattle.taxa.specs.Sets.{_∈_, _⊆_, _∪_, _∖_, count}
-use Rattle.taxa.proofs.Members.{in∪, in∖, ext, ⊆-refl, ⊆-trans, in-pow, pow-in, below}
-use Rattle.taxa.proofs.Counts.{count-pow}
+use Rattle.taxa.specs.Sets.{_⊆_, _∪_, _∖_, count}
+use Rattle.taxa.proofs.Members.{in∪, in∖, ext, ⊆-refl, ⊆-trans, in-pow, pow-in}
 use Rattle.grammar.specs.Trees.{Tree, Trees, leaf, inner, one, then}
 use Rattle.grammar.specs.Columns.{Bytes}
-use Rattle.clades.specs.Shows.{Laminar, Lowest, Part, Shows, taxon, group, Row, first, next}
+use Rattle.clades.specs.Shows.{Groups, Lowest, Part, Shows, taxon, group, Row, first, next}
 use Rattle.clades.proofs.Parts.{part-in}
-use Rattle.clades.proofs.Exists.{Groups, part-<}
+use Rattle.clades.proofs.Drawing.{alone}
+use Rattle.clades.proofs.Drawn.{part-<}
 
 -- How many trees there are.
 size : Trees → ℕ
@@ -84,7 +84,7 @@ module _ {gs : List ℕ} (gr : Groups gs) where
 
   -- A taxon alone is no group.
   not-alone : {S : ℕ} (i : ℕ) → List·Memᴰ S gs → S ≡ 2 ^ i → ⊥
-  not-alone i g e = let f = ap (count 64) e in omega (arith, gr .two g, count-pow 64 {j = i} (below 64 (rw e at (gr .fits g)) (in-pow i)))
+  not-alone i g e = omega (arith, gr .two g, alone i e (gr .fits g))
 
   module _ {name : ℕ → Bytes} where
     step : {S : ℕ} {t u : Tree} → ((P : ℕ) (t u : Tree) → count 64 P < count 64 S → Shows name gs P t → Shows name gs P u → t ≡ u) → Shows name gs S t → Shows name gs S u → t ≡ u

@@ -1,13 +1,13 @@
 -- The parts of a group share no taxon (`apart`).
-use mathlib.Core.Path.{_≡_, refl, sym, subst}
+use mathlib.Core.Path.{_≡_, subst}
 use mathlib.Core.Logic.{_⊎_, inl, inr, ⊎-elim}
 use mathlib.Core.List.{List, List·Memᴰ}
 use Prim.Native.Nat.{ℕ, _^_}
-use Rattle.taxa.specs.Sets.{_∈_, _∉_, _⊆_, Disjoint, _∪_, _∖_}
+use Rattle.taxa.specs.Sets.{_∈_, _⊆_, Disjoint, _∖_}
 use Rattle.taxa.proofs.Members.{in∪, in∖, ∪-⊆, ⊆-refl, pow-in, pow-⊆}
-use Rattle.grammar.specs.Trees.{Tree, Trees}
+use Rattle.grammar.specs.Trees.{Trees}
 use Rattle.grammar.specs.Columns.{Bytes}
-use Rattle.clades.specs.Shows.{NestedOrDisjoint, Laminar, Lowest, Part, Shows, Row, first, next}
+use Rattle.clades.specs.Shows.{Laminar, Lowest, Part, Row, first, next}
 
 -- A part inside D that has l.
 record Covered (gs : List ℕ) (S D l : ℕ) : Type 0 where

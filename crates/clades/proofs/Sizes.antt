@@ -1,23 +1,25 @@
 -- A tree that shows S has as many names as S has taxa, fewer brackets, and is less deep (`sizes`); no name stands twice (`distinct`).
-use mathlib.Core.Path.{_≡_, refl, sym, ap, _∙_, subst}
+use mathlib.Core.Path.{_≡_, refl, sym, _∙_, subst}
 use mathlib.Core.Bool.{Bool, true, false}
 use mathlib.Core.Logic.{inl, inr, ⊎-elim}
-use mathlib.Core.List.{List, [], _∷_, _++_}
-use Prim.Native.Nat.{ℕ, suc, max, _+_, _^_, _≤_, _<_}
+use mathlib.Core.List.{List, _∷_, _++_}
+use Prim.Native.Nat.{ℕ, suc, max, _^_, _<_}
 use native.Mathlib.Omega.{arith}
 use lib.ListN.{length, length-append}
-use Rattle.taxa.specs.Sets.{_∈_, _⊆_, Disjoint, _∪_, _∖_, count}
-use Rattle.taxa.proofs.Members.{in∪, ∪-⊆, ⊆-trans, ⊆-≤, in-pow, below}
-use Rattle.taxa.proofs.Counts.{count-pow, count-∪}
+use Rattle.taxa.specs.Sets.{_∈_, _⊆_, Disjoint, _∪_, count}
+use Rattle.taxa.proofs.Members.{in∪, ∪-⊆, ⊆-trans, ⊆-≤, in-pow}
+use Rattle.taxa.proofs.Counts.{count-∪}
 use Rattle.grammar.specs.Trees.{Tree, Trees}
 use Rattle.grammar.specs.Columns.{Bytes, names, allNames, clades, allClades}
 use Rattle.grammar.specs.Limits.{isIn, Distinct, end, depth, deepest}
 use Rattle.grammar.specs.Limits as limits
 use Rattle.grammar.proofs.Lists.{distinct-both}
 use Rattle.grammar.proofs.Numbering.{isIn-mem}
-use Rattle.clades.specs.Shows.{Differ, Laminar, Lowest, Part, Shows, taxon, group, Row, first, next}
+use Rattle.clades.specs.Shows.{Laminar, Part, Shows, taxon, group, Row, first, next}
+use Rattle.clades.specs.Clades.{Differ, Names}
 use Rattle.clades.proofs.Parts.{apart, row-in}
-use Rattle.clades.proofs.Clades.{Names, names-∪, row-names}
+use Rattle.clades.proofs.Clades.{names-∪, row-names}
+use Rattle.clades.proofs.Drawing.{alone}
 
 pub record Sizes (S : ℕ) (ns : List Bytes) (cs : List (List Bytes)) (d : ℕ) : Type 0 where
   pub all-names : length ns ≡ count 64 S
@@ -42,9 +44,6 @@ enclose {D} {P} {ns} {ms} {cs = cs} {es = es} a x y = record {
 
 smaller : {gs : List ℕ} {S i P : ℕ} → Part gs S i P → S < 2 ^ 64 → P < 2 ^ 64
 smaller p s = omega (arith, ⊆-≤ (p .inside))
-
-alone : {S : ℕ} (i : ℕ) → S ≡ 2 ^ i → S < 2 ^ 64 → count 64 S ≡ 1
-alone i e s = ap (count 64) e ∙ count-pow 64 {j = i} (below 64 (rw e at s) (in-pow i))
 
 module _ {name : ℕ → Bytes} {gs : List ℕ} (lam : Laminar gs) where
   mutual

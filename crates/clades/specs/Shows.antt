@@ -3,17 +3,20 @@ use mathlib.Core.Path.{_≡_}
 use mathlib.Core.Logic.{_⊎_}
 use mathlib.Core.List.{List, List·Memᴰ}
 use Prim.Native.Nat.{ℕ, _^_, _≤_, _<_}
-use Rattle.taxa.specs.Sets.{_∈_, _∉_, _⊆_, Disjoint, _∪_, _∖_}
+use Rattle.taxa.specs.Sets.{_∈_, _⊆_, _∪_, _∖_, count}
+use Rattle.taxa.specs.Groups.{NestedOrDisjoint}
 use Rattle.grammar.specs.Trees.{Tree, Trees, leaf, inner, one, then}
 use Rattle.grammar.specs.Columns.{Bytes}
 
 -- "Any two are nested or disjoint."
-abbrev pub NestedOrDisjoint : ℕ → ℕ → Type 0
-NestedOrDisjoint X Y = X ⊆ Y ⊎ (Y ⊆ X ⊎ Disjoint X Y)
-
--- So are any two of these groups.
 pub record Laminar (gs : List ℕ) : Type 0 where
   pub pair : {X Y : ℕ} → List·Memᴰ X gs → List·Memᴰ Y gs → NestedOrDisjoint X Y
+
+-- "Groups have two or more taxa", of 64.
+pub record Groups (gs : List ℕ) : Type 0 where
+  pub laminar : Laminar gs
+  pub fits : {G : ℕ} → List·Memᴰ G gs → G < 2 ^ 64
+  pub two : {G : ℕ} → List·Memᴰ G gs → 1 < count 64 G
 
 -- The lowest taxon of R.
 pub record Lowest (R i : ℕ) : Type 0 where
@@ -27,10 +30,6 @@ pub record Part (gs : List ℕ) (S i P : ℕ) : Type 0 where
   pub proper : P ≡ S → ⊥
   pub kind : (P ≡ 2 ^ i) ⊎ List·Memᴰ P gs
   pub largest : {G : ℕ} → List·Memᴰ G gs → G ⊆ S → (G ≡ S → ⊥) → i ∈ G → G ⊆ P
-
--- No two taxa of A have one name.
-pub record Differ (name : ℕ → Bytes) (A : ℕ) : Type 0 where
-  pub differ : {i j : ℕ} → i ∈ A → j ∈ A → name i ≡ name j → i ≡ j
 
 module _ (name : ℕ → Bytes) (gs : List ℕ) where
   mutual

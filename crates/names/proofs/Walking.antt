@@ -1,13 +1,13 @@
--- Records of names met one after the other: the first of some and the others (`names-one`, `place-one`), one more after them (`names-more`, `place-more`),
--- and name number i of them (`name-from`); a name as a part of the file (`name-part`).
-use mathlib.Core.Path.{_≡_, refl, ap, _∙_}
-use mathlib.Core.Bool.{false, _||_}
+-- Records of names met one after the other: the first of some and the others (`names-one`, `place-one`), one more after them (`names-more`, `place-more`);
+-- a name as a part of the file (`name-part`).
+use mathlib.Core.Path.{_≡_, refl, ap}
+use mathlib.Core.Bool.{true, false}
 use mathlib.Core.List.{List, [], _∷_, _++_}
 use Prim.Native.Nat.{ℕ, zero, suc, _+_, _-_, _*_, _≤_, _<_}
 use native.Mathlib.Nat.{suc-add}
 use native.Mathlib.Numerals.{sub-one}
 use native.Mathlib.Omega.{arith}
-use lib.ListN.{length, getD, take, drop}
+use lib.ListN.{length, take, drop}
 use Rattle.grammar.specs.Columns.{Bytes}
 use Rattle.grammar.specs.Limits.{equal, isIn}
 use Rattle.record.specs.Bytes.{numberAt}
@@ -19,15 +19,20 @@ module _ (file : List ℕ) where
   unfolding nameAt
   name-part at end e = let l : end - (at + 4) ≡ numberAt 2 file at = omega arith in rw l
 
-  pub names-one : (k at : ℕ) → 0 < k → namesFrom file k at ≡ nameAt file at ∷ namesFrom file (k - 1) (after file at)
+  names-one : (k at : ℕ) → 0 < k → namesFrom file k at ≡ nameAt file at ∷ namesFrom file (k - 1) (after file at)
   unfolding namesFrom
   names-one zero at h = absurd (omega arith)
   names-one (suc k) at h = rw (sub-one (suc k))
 
   -- Whether a name is among them: it is the first, or among the others.
-  pub in-one : (n : Bytes) (k at : ℕ) → 0 < k → isIn n (namesFrom file k at) ≡ equal n (nameAt file at) || isIn n (namesFrom file (k - 1) (after file at))
-  unfolding isIn
-  in-one n k at h = rw (names-one k at h)
+  module _ (n : Bytes) (k at : ℕ) (h : 0 < k) where
+    pub in-first : equal n (nameAt file at) ≡ true → isIn n (namesFrom file k at) ≡ true
+    unfolding isIn
+    in-first e = rw (names-one k at h, e)
+
+    pub in-others : equal n (nameAt file at) ≡ false → isIn n (namesFrom file k at) ≡ isIn n (namesFrom file (k - 1) (after file at))
+    unfolding isIn
+    in-others e = rw (names-one k at h, e)
 
   pub in-none : (n : Bytes) (k at : ℕ) → k ≤ 0 → isIn n (namesFrom file k at) ≡ false
   unfolding isIn namesFrom
@@ -64,9 +69,3 @@ module _ (file : List ℕ) where
   unfolding namesFrom
   length-names zero at = refl
   length-names (suc k) at = ap suc (length-names k (after file at))
-
-  pub name-from : (k at i : ℕ) → i < k → getD (namesFrom file k at) i [] ≡ nameAt file (placeFrom file i at)
-  unfolding namesFrom placeFrom
-  name-from zero at i h = absurd (omega arith)
-  name-from (suc k) at zero h = refl
-  name-from (suc k) at (suc i) h = name-from k (after file at) i (omega arith)

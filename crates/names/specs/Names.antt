@@ -33,10 +33,14 @@ nameBytes n = recordBytes (nameRecord n) n
 abbrev pub endBytes : List ℕ
 endBytes = recordBytes (recordOf records.namesEnd) []
 
+-- The records of names, one after the other.
+unfoldable pub namesBytes : List Bytes → List ℕ
+namesBytes [] = []
+namesBytes (n ∷ ns) = nameBytes n ++ namesBytes ns
+
 -- "kind 33 per name, kind 34 to end".
 unfoldable pub listOf : List Bytes → List ℕ
-listOf [] = endBytes
-listOf (n ∷ ns) = nameBytes n ++ listOf ns
+listOf ns = namesBytes ns ++ endBytes
 
 -- How many bytes that is.
 unfoldable pub listLength : List Bytes → ℕ

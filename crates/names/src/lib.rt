@@ -54,7 +54,8 @@ fn is_spelt(name: &[u8]) -> bool
     true
 }
 
-fn same(one: &[u8], other: &[u8]) -> bool
+// Whether two names are the same.
+pub fn same(one: &[u8], other: &[u8]) -> bool
     ensures { λ r. ⌜ r ≡ equal (now (one .entry)) (now (other .entry)) ⌝ }
 {
     if one.len() != other.len() {

@@ -1,29 +1,30 @@
 -- Each token, as the reader's lists hold what is kept of it: from a place between tokens to the next, or to a refusal.
 use mathlib.Core.Path.{_≡_, refl, sym, ap, _∙_, subst}
 use mathlib.Core.Bool.{Bool, true, false, cond, true≢false}
-use mathlib.Core.List.{List, [], _∷_, _++_, map}
+use mathlib.Core.List.{List, [], _∷_, _++_, map, map-append, append-assoc, append-nil}
 use Prim.Native.Nat.{ℕ, zero, suc, _+_, _-_, _^_, _≤_, _<_}
 use native.Mathlib.Nat.{add-zero}
 use native.Mathlib.Numerals.{add-one}
 use native.Mathlib.Omega.{arith}
 use lib.Dec.{eqb, ltb}
 use lib.ListN.{length, getD, set, take, drop, length-set, length-drop}
-use lib.Seq.{getD-set-same, getD-set-other, take-set-le, drop-set-add, take-set-lt, take-suc-set, take-add, length-take-le}
+use lib.Seq.{getD-set-same, getD-set-other, take-set-le, drop-set-add, take-set-lt, take-suc, take-suc-set, take-add, length-take-le, getD-drop}
 use borrow.Author.Tests.{eqb-true, eq-eqb, ne-eqb, lt-ltb, le-ltb}
 use Rattle.taxa.specs.Sets.{_∪_, _∖_, within}
-use Rattle.grammar.specs.Bytes.{byte, isLetter, left, right, comma, semicolon}
-use Rattle.grammar.specs.Trees.{word, sign}
-use Rattle.grammar.specs.Verdict.{goes, fails, refused}
+use Rattle.grammar.specs.Bytes.{byte, isBlank, isLetter, left, right, comma, semicolon}
+use Rattle.grammar.specs.Trees.{Trees, word, sign}
+use Rattle.grammar.specs.Verdict.{goes, accepted, refused}
 use Rattle.grammar.specs.Columns.{Bytes}
 use Rattle.grammar.specs.Limits.{number}
 use Rattle.grammar.specs.inner.Shape.{beginning, ended}
 use Rattle.grammar.specs.inner.Standing.{Run, piece, Standing}
-use Rattle.grammar.proofs.Standing.{opens, open-refused, closes, closes-one, closes-none, goes-to-next, next-outside, finishes, finishes-inside, names, name-refused, too-long}
+use Rattle.grammar.proofs.Standing as standing
+use Rattle.grammar.proofs.Standing.{skips, cannot-begin, cannot-follow, opens, open-refused, closes, closes-one, closes-none, goes-to-next, next-outside, finishes, finishes-inside, names, name-refused, too-long, ends, ends-unfinished, ends-treeless, ends-inside}
 use Rattle.ledger.specs.inner.Ledger.{Ledger, Opened, unwritten, note, outcome, wrongs, keep, opening, entering, known}
 use Rattle.newick.specs.declared.Reading.{Reading}
 use Rattle.newick.specs.inner.Names.{Placed, namesIn}
-use Rattle.newick.specs.inner.Book.{Book, withNames, withBrackets, withColumns, bracketsIn, filledIn, ledgerIn, Bracketed, Holds, SignAt, cladePut, withName}
-use Rattle.newick.proofs.Names.{one-further, length-piece, length-names}
+use Rattle.newick.specs.inner.Book.{Book, withNames, withBrackets, withColumns, bracketsIn, filledIn, ledgerIn, Bracketed, Holds, SignAt, cladePut, withName, Roomy}
+use Rattle.newick.proofs.Names.{one-further, length-piece, number-most, length-names, names-more}
 
 -- ---- the lists of open brackets
 
@@ -66,6 +67,10 @@ brackets-last index before d e q = rw (q, add-one)
 pub filled-last : (filled : List Bool) (d e : ℕ) → d ≡ e + 1 → filledIn filled d ≡ getD filled e false ∷ filledIn filled e
 unfolding filledIn
 filled-last filled d e q = rw (q, add-one)
+
+pub none-filled : (filled : List Bool) (d : ℕ) → d ≡ 0 → filledIn filled d ≡ []
+unfolding filledIn
+none-filled filled d e = rw e
 
 -- ---- the columns
 
@@ -111,6 +116,31 @@ clade-set ones columns opened zero clade l = refl
 clade-set ones columns opened (suc i) clade l =
     rw (not-first i, one-less i, drop-set-add columns ones i clade) (take-set-lt (opened - 1) (drop columns ones) i clade (omega arith))
 
+pub put-root : (ones : List ℕ) (columns i clade : ℕ) → i ≡ 0 → ones ≡ cladePut ones columns i clade
+unfolding cladePut
+put-root ones columns i clade e = rw e
+
+pub put-other : (ones : List ℕ) (columns i clade : ℕ) → (i ≡ 0 → ⊥) → set ones (columns + i - 1) clade ≡ cladePut ones columns i clade
+unfolding cladePut
+put-other ones columns zero clade n = absurd (n refl)
+put-other ones columns (suc i) clade n = let at : columns + suc i - 1 ≡ columns + i = omega arith in rw at
+
+-- The 0-sets of no columns, and of one more.
+pub no-zeros : (ones zeros : List ℕ) (here first : ℕ) → take first zeros ≡ take first zeros ++ map (λ x. here ∖ x) (take (first - first) (drop first ones))
+no-zeros ones zeros here first = let none : first - first ≡ 0 = omega arith in rw none (sym (append-nil (take first zeros)))
+
+pub zero-more : (ones zeros kept : List ℕ) (here first c : ℕ) → first ≤ c → c < length ones → c < length zeros
+    → take c zeros ≡ kept ++ map (λ x. here ∖ x) (take (c - first) (drop first ones))
+    → take (c + 1) (set zeros c (here ∖ getD ones c 0)) ≡ kept ++ map (λ x. here ∖ x) (take (c + 1 - first) (drop first ones))
+zero-more ones zeros kept here first c l i j e =
+    let size : c + 1 - first ≡ suc (c - first) = omega arith in
+    let place : first + (c - first) ≡ c = omega arith in
+    let next : take (suc (c - first)) (drop first ones) ≡ take (c - first) (drop first ones) ++ (getD ones c 0 ∷ []) =
+    take-suc (drop first ones) (c - first) 0 (omega (arith, length-drop first ones)) ∙ rw (getD-drop first ones (c - first) 0, place)
+    in
+    rw (size, next, map-append (λ x. here ∖ x) (take (c - first) (drop first ones)) (getD ones c 0 ∷ []), ← append-assoc, ← e, one-up c)
+    (take-suc-set zeros c (here ∖ getD ones c 0) j)
+
 -- ---- the tokens
 
 module _ {text : List ℕ} {k : Book} {r : Reading} (h : Holds text k r) where
@@ -120,6 +150,15 @@ module _ {text : List ℕ} {k : Book} {r : Reading} (h : Holds text k r) where
 
   at-subtree : r .ended ≡ false → Standing note unwritten text (r .at) beginning (r .finished) (filledIn (k .filled) (r .depth)) (ledgerIn text k r)
   at-subtree e = rw e at (h .stands)
+
+  -- A byte that cannot stand here.
+  pub wrong-after : r .ended ≡ true → r .at < length text → isBlank (getD text (r .at) 0) ≡ false → (getD text (r .at) 0 ≡ byte right → ⊥)
+      → (getD text (r .at) 0 ≡ byte comma → ⊥) → (getD text (r .at) 0 ≡ byte semicolon → ⊥) → outcome text ≡ refused 16 (r .at)
+  wrong-after e = cannot-follow (after-subtree e)
+
+  pub wrong-before : r .ended ≡ false → r .at < length text → isBlank (getD text (r .at) 0) ≡ false → isLetter (getD text (r .at) 0) ≡ false
+      → (getD text (r .at) 0 ≡ byte left → ⊥) → outcome text ≡ refused 16 (r .at)
+  wrong-before e = cannot-begin (at-subtree e)
 
   -- A comma.
   module _ {next : ℕ} (subtree : r .ended ≡ true) (s : SignAt text (r .at) (byte comma) next) where
@@ -328,4 +367,100 @@ module _ {text : List ℕ} {k : Book} {r : Reading} (h : Holds text k r) where
             let old = number-of true (lt-ltb i (r .taxa) l) in
             let goes-on : note before-it (word read) ≡ goes (entering before-it read) = rw (fits, old, ← e, w) in
             let stands = rw (old, ← e) at (names (at-subtree subtree) run some short goes-on) in
-            record { placed = h .placed; bracketed = ?; zeros-room = h .zeros-room; stands = stands }
+            record { placed = h .placed; bracketed = h .bracketed; zeros-room = h .zeros-room; stands = stands }
+
+      -- A new name.
+      module _ (l : r .taxa ≤ i) where
+        new : i ≡ r .taxa
+        new = omega (arith, e, number-most taxa read, length-names text (k .starts) (k .sizes) (r .taxa))
+
+        unknown : known before-it read ≡ false
+        unknown = number-of false (le-ltb i (r .taxa) l)
+
+        pub name-19 : 64 ≤ i → outcome text ≡ refused 19 (r .at)
+        unfolding wrongs
+        name-19 f =
+            let all : r .taxa ≡ 64 = omega (arith, new, h .placed .few) in
+            name-refused (at-subtree subtree) run some short (rw (fits, unknown, length-names text (k .starts) (k .sizes) (r .taxa), all))
+
+        start-kept : (j : ℕ) → j < i → getD (set (k .starts) i (r .at)) j 0 ≡ getD (k .starts) j 0
+        start-kept j b = getD-set-other (k .starts) i j (r .at) 0 (λ q. absurd (omega arith))
+
+        size-kept : (j : ℕ) → j < i → getD (set (k .sizes) i (end - r .at)) j 0 ≡ getD (k .sizes) j 0
+        size-kept j b = getD-set-other (k .sizes) i j (end - r .at) 0 (λ q. absurd (omega arith))
+
+        start-new : i < 64 → getD (set (k .starts) i (r .at)) i 0 ≡ r .at
+        start-new f = getD-set-same (k .starts) i (r .at) 0 (omega (arith, h .placed .starts-room))
+
+        size-new : i < 64 → getD (set (k .sizes) i (end - r .at)) i 0 ≡ end - r .at
+        size-new f = getD-set-same (k .sizes) i (end - r .at) 0 (omega (arith, h .placed .sizes-room))
+
+        pub name-new : i < 64 → Holds text (withNames k (set (k .starts) i (r .at)) (set (k .sizes) i (end - r .at))) (withName r end (i + 1) i)
+        unfolding wrongs keep
+        name-new f =
+            let room : r .taxa ≤ 63 = omega (arith, new) in
+            let goes-on : note before-it (word read) ≡ goes (entering before-it read) =
+            rw (fits, unknown, length-names text (k .starts) (k .sizes) (r .taxa), le-ltb 63 (r .taxa) room)
+            in
+            let stands = rw (unknown, ← e) at (names (at-subtree subtree) run some short goes-on) in
+            record {
+              placed = record {
+                starts-room = length-set (k .starts) i (r .at) ∙ h .placed .starts-room;
+                sizes-room = length-set (k .sizes) i (end - r .at) ∙ h .placed .sizes-room;
+                few = omega arith;
+                inside = one-further (λ j. getD (set (k .starts) i (r .at)) j 0 + getD (set (k .sizes) i (end - r .at)) j 0 ≤ length text)
+                    (λ j b. rw (start-kept j b, size-kept j b) (h .placed .inside j (omega (arith, new)))) (rw (start-new f, size-new f) (omega (arith, run .within)));
+                short = one-further (λ j. getD (set (k .sizes) i (end - r .at)) j 0 ≤ 32) (λ j b. rw (size-kept j b) (h .placed .short j (omega (arith, new)))) (rw (size-new f) short);
+              };
+              bracketed = h .bracketed;
+              zeros-room = h .zeros-room;
+              stands = rw (new, names-more text (k .starts) (k .sizes) (r .at) (end - r .at) (r .taxa) (omega (arith, h .placed .starts-room)) (omega (arith, h .placed .sizes-room))) (rw new at stands);
+            }
+
+-- ---- the text
+
+-- No token yet.
+pub begins : (text : List ℕ) (k : Book) → Roomy k
+    → Holds text k (record { at = 0; ended = false; finished = false; taxa = 0; columns = 0; here = 0; opened = 0; depth = 0 })
+unfolding namesIn bracketsIn filledIn
+begins text k room = record {
+  placed = record {
+    starts-room = room .starts-room;
+    sizes-room = room .sizes-room;
+    few = omega arith;
+    inside = λ j l. absurd (omega arith);
+    short = λ j l. absurd (omega arith);
+  };
+  bracketed = record {
+    ones-room = room .ones-room;
+    index-room = room .index-room;
+    before-room = room .before-room;
+    filled-room = room .filled-room;
+    nested = omega arith;
+    columns-fit = omega arith;
+    clades-fit = omega arith;
+    has-opened = λ j l. absurd (omega arith);
+  };
+  zeros-room = room .zeros-room;
+  stands = standing.starts;
+}
+
+module _ {text : List ℕ} {k : Book} {r : Reading} (h : Holds text k r) where
+  -- The blanks between two tokens.
+  pub blanks-passed : {end : ℕ} → Run isBlank text (r .at) end
+      → Holds text k (record { at = end; ended = r .ended; finished = r .finished; taxa = r .taxa; columns = r .columns; here = r .here; opened = r .opened; depth = r .depth })
+  blanks-passed run = record { placed = h .placed; bracketed = h .bracketed; zeros-room = h .zeros-room; stands = skips (h .stands) run }
+
+  -- The file's end.
+  module _ (end : r .at ≡ length text) where
+    pub end-after-subtree : r .ended ≡ true → outcome text ≡ refused 16 (r .at)
+    end-after-subtree e = ends-unfinished (after-subtree h e) (omega arith)
+
+    pub end-without-tree : r .finished ≡ false → outcome text ≡ refused 16 (r .at)
+    end-without-tree f = ends-treeless (rw f at (h .stands)) (omega arith)
+
+    pub end-inside : (r .depth ≡ 0 → ⊥) → outcome text ≡ refused 16 (r .at)
+    end-inside n = ends-inside (rw (filled-last (k .filled) (r .depth) (r .depth - 1) (omega arith)) at (h .stands)) (omega arith)
+
+    pub end-taken : r .ended ≡ false → r .finished ≡ true → r .depth ≡ 0 → (ts : Trees) × (outcome text ≡ accepted ts (ledgerIn text k r))
+    end-taken e f g = let s = rw (f, none-filled (k .filled) (r .depth) g) at (at-subtree h e) in ends s (omega arith)

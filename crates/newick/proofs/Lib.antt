@@ -2,3 +2,6 @@
 pub mod Runs
 pub mod Names
 pub mod Book
+pub mod Taken
+pub mod Promises
+pub mod Specimens

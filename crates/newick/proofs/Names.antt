@@ -1,17 +1,17 @@
--- Names in a text: pieces compared byte by byte (`same-pieces`, `other-pieces`), and the number of a name as a loop finds it (`found`, `not-found`).
+-- Names in a text: the number of a name as a loop finds it (`found`, `not-found`).
 use mathlib.Core.Path.{_≡_, refl, sym, ap, _∙_, subst}
-use mathlib.Core.Bool.{Bool, true, false, true≢false}
+use mathlib.Core.Bool.{Bool, true, false, cond}
 use mathlib.Core.Logic.{⊎-elim}
 use mathlib.Core.List.{List, [], _∷_, _++_}
-use Prim.Native.Nat.{ℕ, zero, suc, _+_, _≤_, _<_}
+use Prim.Native.Nat.{ℕ, zero, suc, _+_, _-_, _≤_, _<_}
 use native.Mathlib.Nat.{eq-or-lt-of-le}
+use native.Mathlib.Numerals.{add-one}
 use native.Mathlib.Omega.{arith}
-use lib.ListN.{length, getD, take, drop, length-drop, length-append, List·getD-append}
-use lib.Seq.{length-take-le, getD-take, getD-drop, ext-getD, getD-at}
+use lib.ListN.{length, getD, set, take, drop, length-drop, length-append, List·getD-append}
+use lib.Seq.{length-take-le, getD-at, getD-set-same, getD-set-other}
 use Rattle.grammar.specs.Columns.{Bytes}
 use Rattle.grammar.specs.Limits.{equal, number}
 use Rattle.grammar.specs.inner.Standing.{piece}
-use Rattle.grammar.proofs.Numbering.{equal-refl, equal-true}
 use Rattle.newick.specs.inner.Names.{namesIn}
 
 -- What holds of all numbers below i, and of i.
@@ -23,32 +23,9 @@ one-further P before here j l = ⊎-elim (λ e. subst P (sym e) here) (before j)
 pub length-piece : (text : List ℕ) (a k : ℕ) → a + k ≤ length text → length (piece text a k) ≡ k
 length-piece text a k l = length-take-le k (drop a text) (rw length-drop (omega arith))
 
-byte-of-piece : (text : List ℕ) (a k i : ℕ) → i < k → getD (piece text a k) i 0 ≡ getD text (a + i) 0
-byte-of-piece text a k i l = getD-take k (drop a text) i 0 l ∙ getD-drop a text i 0
-
-module _ (text : List ℕ) (a b k : ℕ) where
-  pub same-pieces : a + k ≤ length text → b + k ≤ length text → ((i : ℕ) → i < k → getD text (a + i) 0 ≡ getD text (b + i) 0)
-      → true ≡ equal (piece text a k) (piece text b k)
-  same-pieces la lb e = sym (subst (λ (m : Bytes). equal (piece text a k) m ≡ true) same (equal-refl (piece text a k)))
-    where
-      same : piece text a k ≡ piece text b k
-      same = ext-getD 0 (piece text a k) (piece text b k) (length-piece text a k la ∙ sym (length-piece text b k lb)) (λ i l.
-          let m : i < k = omega (arith, length-piece text a k la) in byte-of-piece text a k i m ∙ e i m ∙ sym (byte-of-piece text b k i m))
-
-  pub other-pieces : (i : ℕ) → i < k → (getD text (a + i) 0 ≡ getD text (b + i) 0 → ⊥) → false ≡ equal (piece text a k) (piece text b k)
-  other-pieces i l n = go (equal (piece text a k) (piece text b k)) refl
-    where
-      go : (c : Bool) → equal (piece text a k) (piece text b k) ≡ c → false ≡ c
-      go false f = refl
-      go true f = absurd (n (sym (byte-of-piece text a k i l) ∙ ap (λ (m : Bytes). getD m i 0) (equal-true _ _ f) ∙ byte-of-piece text b k i l))
-
--- Names of two sizes differ.
-pub other-size : (n m : Bytes) → (length n ≡ length m → ⊥) → false ≡ equal n m
-other-size n m d = go (equal n m) refl
-  where
-    go : (c : Bool) → equal n m ≡ c → false ≡ c
-    go false f = refl
-    go true f = absurd (d (ap (λ (l : Bytes). length l) (equal-true n m f)))
+-- A part of a text that is lent from a place to another.
+pub whole-piece : (text : List ℕ) (a k : ℕ) → take (a + k - a) (drop a text) ≡ piece text a k
+whole-piece text a k = let size : a + k - a ≡ k = omega arith in rw size
 
 -- ---- numbers
 
@@ -63,6 +40,15 @@ number-nowhere : (ms : List Bytes) (n : Bytes) → ((j : ℕ) → j < length ms 
 unfolding number
 number-nowhere [] n before = refl
 number-nowhere (m ∷ ms) n before = rw (before 0 (omega arith)) (ap suc (number-nowhere ms n (λ j k. before (suc j) (omega arith))))
+
+pub number-most : (ms : List Bytes) (n : Bytes) → number ms n ≤ length ms
+unfolding number
+number-most [] n = omega arith
+number-most (m ∷ ms) n = go (equal n m) (number-most ms n)
+  where
+    go : (c : Bool) → number ms n ≤ length ms → cond c 0 (suc (number ms n)) ≤ suc (length ms)
+    go true l = omega arith
+    go false l = omega arith
 
 -- ---- the names that are placed
 
@@ -80,6 +66,21 @@ name-in text starts sizes (suc n) i l =
     (λ e. rw e (getD-at (namesIn text starts sizes n) _ [] [] n k))
     (λ b. List·getD-append (namesIn text starts sizes n) _ [] i (omega arith) ∙ name-in text starts sizes n i b)
     (eq-or-lt-of-le (omega arith))
+
+-- A store past the first n changes none of them, and one right after them is one name more.
+names-kept : (text starts sizes : List ℕ) (at size i n : ℕ) → n ≤ i → namesIn text (set starts i at) (set sizes i size) n ≡ namesIn text starts sizes n
+unfolding namesIn
+names-kept text starts sizes at size i zero l = refl
+names-kept text starts sizes at size i (suc n) l =
+    let e = getD-set-other starts i n at 0 (λ e. absurd (omega arith)) in
+    let f = getD-set-other sizes i n size 0 (λ e. absurd (omega arith)) in
+    rw (e, f, names-kept text starts sizes at size i n (omega arith))
+
+pub names-more : (text starts sizes : List ℕ) (at size n : ℕ) → n < length starts → n < length sizes
+    → namesIn text (set starts n at) (set sizes n size) (n + 1) ≡ namesIn text starts sizes n ++ (piece text at size ∷ [])
+unfolding namesIn
+names-more text starts sizes at size n l m =
+    rw (add-one, getD-set-same starts n at 0 l, getD-set-same sizes n size 0 m, names-kept text starts sizes at size n n (omega arith))
 
 module _ (text starts sizes : List ℕ) (n : ℕ) (m : Bytes) where
   -- The first i names are others.

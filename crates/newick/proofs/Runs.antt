@@ -1,6 +1,6 @@
 -- A run of bytes that meet a test, as a loop goes along it: none yet (`none-yet`), one more (`one-more`), and where it stops (`stops-here`, `stops-at-end`).
-use mathlib.Core.Path.{_≡_, ap, _∙_}
-use mathlib.Core.Bool.{Bool, true, false}
+use mathlib.Core.Path.{_≡_, sym, ap, _∙_, subst}
+use mathlib.Core.Bool.{Bool, true, false, true≢false}
 use mathlib.Core.Logic.{⊎-elim}
 use mathlib.Core.List.{List}
 use Prim.Native.Nat.{ℕ, suc, _+_, _≤_, _<_}
@@ -31,3 +31,8 @@ module _ {test : ℕ → Bool} {text : List ℕ} {from at : ℕ} where
 
   pub stops-at-end : Sofar test text from at → length text ≤ at → Run test text from at
   stops-at-end s n = record { up = s .up; within = s .within; each = s .each; stops = λ l. absurd (omega arith) }
+
+-- A run from a byte that meets the test has a byte.
+pub some-run : {test : ℕ → Bool} {text : List ℕ} {from to : ℕ} → Run test text from to → from < length text → test (getD text from 0) ≡ true → from < to
+some-run {test} {text} run l e =
+    ⊎-elim (λ f. absurd (true≢false (sym e ∙ subst (λ (i : ℕ). test (getD text i 0) ≡ false) (sym f) (run .stops (omega arith))))) (λ b. b) (eq-or-lt-of-le (run .up))

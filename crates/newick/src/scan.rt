@@ -39,28 +39,12 @@ pub fn after_letters(text: &[u8], from: usize) -> usize
     at
 }
 
-// Whether two pieces of a text, of one size, are the same.
-fn same_pieces(text: &[u8], a: usize, b: usize, size: usize) -> bool
-    requires { ⌜ (a + size ≤ length (now text)) × (b + size ≤ length (now text)) ⌝ }
-    ensures { λ r. ⌜ r ≡ equal (piece (now (text .entry)) a size) (piece (now (text .entry)) b size) ⌝ }
-{
-    for i in 0usize..size {
-        if text[a + i] != text[b + i] {
-            return false;
-        }
-    }
-    true
-}
-
 // Whether two names in a text are the same.
 fn same_names(text: &[u8], a: usize, size: usize, b: usize, other: usize) -> bool
     requires { ⌜ (a + size ≤ length (now text)) × (b + other ≤ length (now text)) ⌝ }
     ensures { λ r. ⌜ r ≡ equal (piece (now (text .entry)) a size) (piece (now (text .entry)) b other) ⌝ }
 {
-    if size != other {
-        return false;
-    }
-    same_pieces(text, a, b, size)
+    names::same(&text[a..a + size], &text[b..b + other])
 }
 
 // The number of a name among the first n taxa, or n.

@@ -6,10 +6,10 @@ ghost use Prim.Native.Nat.{ℕ, _+_, _-_, _≤_, _<_};
 ghost use lib.ListN.{length, getD, take, drop};
 ghost use Rattle.taxa.specs.Sets.{_∖_};
 ghost use Rattle.record.specs.Records as records;
-ghost use Rattle.grammar.specs.Bytes.{isLetter, byte, left, right, comma, semicolon};
+ghost use Rattle.grammar.specs.Bytes.{isBlank, isLetter, byte, left, right, comma, semicolon};
 ghost use Rattle.newick.specs.declared.Stepped.the-variants as stepped;
 ghost use Rattle.newick.specs.inner.Names.{Placed};
-ghost use Rattle.newick.specs.inner.Book.{Book, withNames, withBrackets, withColumns, Bracketed, SignAt, Holds, Leads, withName, cladePut};
+ghost use Rattle.newick.specs.inner.Book.{Book, book, withNames, withBrackets, withColumns, Bracketed, SignAt, Holds, Leads, withName, cladePut};
 use super::Reading;
 use super::Stepped;
 use super::scan::after_letters;
@@ -83,7 +83,7 @@ fn take_name(
         }
         return Stepped::On(behind_name(from, end, from.taxa, i));
     }
-    if i == TAXA {
+    if TAXA <= i {
         return refused(19, from.at);
     }
     starts[i] = from.at;
@@ -111,7 +111,7 @@ fn take_left(
     from: Reading,
     next: usize,
 ) -> Stepped
-    requires { ⌜ Bracketed (now ones) (now index) (now before) (now filled) from ⌝ }
+    requires { ⌜ Bracketed (now ones) (now index) (now before) (now filled) (from .columns) (from .opened) (from .depth) ⌝ }
     ensures { λ s. ⌜
         ((text : List ℕ) (k : Book) → Holds text (withBrackets k (now (ones .entry)) (now (index .entry)) (now (before .entry)) (now (filled .entry))) from
         → from .ended ≡ false
@@ -150,7 +150,7 @@ fn take_right(
     from: Reading,
     next: usize,
 ) -> Stepped
-    requires { ⌜ Bracketed (now ones) (now index) (now before) (now filled) from ⌝ }
+    requires { ⌜ Bracketed (now ones) (now index) (now before) (now filled) (from .columns) (from .opened) (from .depth) ⌝ }
     ensures { λ s. ⌜
         ((text : List ℕ) (k : Book) → Holds text (withBrackets k (now (ones .entry)) (now (index .entry)) (now (before .entry)) (now (filled .entry))) from
         → from .ended ≡ true
@@ -269,7 +269,16 @@ pub fn take_token(
     before: &mut [u64; 64],
     filled: &mut [bool; 64],
     from: Reading,
-) -> Stepped {
+) -> Stepped
+    requires { ⌜
+        Holds (now text) (book (now starts) (now sizes) (now ones) (now zeros) (now index) (now before) (now filled)) from
+        × (from .at < length (now text))
+        × (isBlank (getD (now text) (from .at) 0) ≡ false) ⌝ }
+    ensures { λ s. ⌜
+        Leads (now (text .entry))
+        (book (now (starts .exit)) (now (sizes .exit)) (now (ones .exit)) (now (zeros .exit)) (now (index .exit)) (now (before .exit)) (now (filled .exit)))
+        (from .at) s ⌝ }
+{
     let at = from.at;
     let b = text[at];
     if from.ended {

@@ -1,11 +1,12 @@
 -- A list with another written over it: how records are written one after the other into the part that is left of lent room.
 use mathlib.Core.Path.{_≡_, sym, ap, _∙_}
-use mathlib.Core.List.{List, [], _++_, append-assoc, append-nil}
-use Prim.Native.Nat.{ℕ, _+_, _-_, _≤_}
+use mathlib.Core.List.{List, [], _∷_, _++_, append-assoc, append-nil}
+use Prim.Native.Nat.{ℕ, _+_, _-_, _≤_, _<_}
 use native.Mathlib.Nat.{zero-add, add-zero, add-assoc}
+use native.Mathlib.Numerals.{add-one}
 use native.Mathlib.Omega.{arith}
-use lib.ListN.{length, take, drop, take-append-drop, length-append, length-drop, drop-of-length-le}
-use lib.Seq.{take-at, drop-append-add, take-all, drop-drop, length-take-le}
+use lib.ListN.{length, take, drop, set, take-append-drop, length-append, length-drop, drop-of-length-le}
+use lib.Seq.{set-split, append-snoc, take-at, drop-append-add, take-all, drop-drop, length-take-le}
 use borrow.Rule.Slice.PartMut.{midOf, postOf, putMid}
 use Rattle.record.specs.Bytes.{over}
 
@@ -16,6 +17,11 @@ nothing a xs = rw (append-nil (take a xs), add-zero a, take-append-drop a xs)
 pub length-over : (r : List ℕ) (a : ℕ) (xs : List ℕ) → a + length r ≤ length xs → length (over r a xs) ≡ length xs
 unfolding over
 length-over r a xs h = let l = length-take-le a xs (omega arith) in simp (length-append, length-drop) (omega arith)
+
+-- One byte stored.
+pub one : (v a : ℕ) (xs : List ℕ) → a < length xs → set xs a v ≡ over (v ∷ []) a xs
+unfolding over
+one v a xs h = rw (set-split xs a v h, append-snoc (take a xs) v (drop (a + 1) xs), add-one a)
 
 -- What is lent from a on is all from a on, and nothing is after it.
 mid-all : (a : ℕ) (xs : List ℕ) → midOf a (length xs - a) xs ≡ drop a xs

@@ -1,10 +1,20 @@
-// Little-endian numbers and a record's first four bytes, written from the first free byte of the part that is lent.
+// Bytes, little-endian numbers and a record's first four bytes, written from the first free byte of the part that is lent.
 ghost use mathlib.Core.Path.{_≡_};
 ghost use Prim.Native.Nat.{_≤_};
 ghost use lib.ListN.{length};
 ghost use Rattle.record.specs.Bytes.{bytesOf, over};
 ghost use Rattle.record.specs.Records.{openingOf};
 use super::Record;
+
+// Bytes as they are.
+pub fn put_bytes(out: &mut [u8], bytes: &[u8])
+    requires { ⌜ length (now bytes) ≤ length (now out) ⌝ }
+    ensures { λ _. ⌜ now (out .exit) ≡ over (now (bytes .entry)) 0 (now (out .entry)) ⌝ }
+{
+    for i in 0..bytes.len() {
+        out[i] = bytes[i];
+    }
+}
 
 pub fn put16(out: &mut [u8], v: u16)
     requires { ⌜ 2 ≤ length (now out) ⌝ }

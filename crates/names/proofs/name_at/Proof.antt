@@ -33,7 +33,8 @@ record-left : (c : tie.In-loop Inv-loop μ-loop) → Whole (c .before .before .b
 record-left c =
     let file = c .before .before .before .args .file .now in
     let at = c .before .loop in
-    omega (arith, named (c .before .before), at .inv, place-one file (at .left) (at .at) (c .loop-test .taken), place-grows file (at .left - 1) (after file (at .at)))
+    let there = named (c .before .before) in
+    omega (arith, at .inv, place-one file (at .left) (at .at) (c .loop-test .taken), place-grows file (at .left - 1) (after file (at .at)))
 
 loop-again : tie.Need-loop-again Inv-loop μ-loop
 loop-again c =

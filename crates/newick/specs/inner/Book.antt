@@ -5,7 +5,8 @@ use mathlib.Core.List.{List, [], _∷_}
 use Prim.Native.Nat.{ℕ, zero, suc, _+_, _-_, _^_, _≤_, _<_}
 use lib.ListN.{length, getD, set, take, drop}
 use Rattle.taxa.specs.Sets.{_∪_}
-use Rattle.grammar.specs.Verdict.{refused}
+use Rattle.grammar.specs.Trees.{Trees}
+use Rattle.grammar.specs.Verdict.{accepted, refused}
 use Rattle.grammar.specs.inner.Shape.{Phase, beginning, ended}
 use Rattle.grammar.specs.inner.Standing.{Standing}
 use Rattle.ledger.specs.inner.Ledger.{Ledger, Opened, unwritten, note, outcome}
@@ -23,6 +24,10 @@ pub record Book : Type 0 where
   pub index : List ℕ
   pub before : List ℕ
   pub filled : List Bool
+
+abbrev pub book : List ℕ → List ℕ → List ℕ → List ℕ → List ℕ → List ℕ → List Bool → Book
+book starts sizes ones zeros index before filled =
+    record { starts = starts; sizes = sizes; ones = ones; zeros = zeros; index = index; before = before; filled = filled }
 
 -- The book with other places of names.
 abbrev pub withNames : Book → List ℕ → List ℕ → Book
@@ -62,15 +67,15 @@ ledgerIn text k r = record {
 }
 
 -- Room for 64 open brackets and 256 columns, the tree's clades among them; and each open bracket is one that has opened.
-pub record Bracketed (ones index before : List ℕ) (filled : List Bool) (r : Reading) : Type 0 where
+pub record Bracketed (ones index before : List ℕ) (filled : List Bool) (columns opened depth : ℕ) : Type 0 where
   pub ones-room : length ones ≡ 256
   pub index-room : length index ≡ 64
   pub before-room : length before ≡ 64
   pub filled-room : length filled ≡ 64
-  pub nested : r .depth ≤ 64
-  pub columns-fit : r .columns ≤ 256
-  pub clades-fit : r .columns + r .opened ≤ 257
-  pub has-opened : (j : ℕ) → j < r .depth → getD index j 0 < r .opened
+  pub nested : depth ≤ 64
+  pub columns-fit : columns ≤ 256
+  pub clades-fit : columns + opened ≤ 257
+  pub has-opened : (j : ℕ) → j < depth → getD index j 0 < opened
 
 -- A subtree has ended, or must begin.
 abbrev pub phaseOf : Bool → Phase
@@ -80,7 +85,7 @@ phaseOf false = beginning
 -- Between tokens: what is kept is the ledger of what was read, and what is left comes to what the whole text does.
 pub record Holds (text : List ℕ) (k : Book) (r : Reading) : Type 0 where
   pub placed : Placed text (k .starts) (k .sizes) (r .taxa)
-  pub bracketed : Bracketed (k .ones) (k .index) (k .before) (k .filled) r
+  pub bracketed : Bracketed (k .ones) (k .index) (k .before) (k .filled) (r .columns) (r .opened) (r .depth)
   pub zeros-room : length (k .zeros) ≡ 256
   pub stands : Standing note unwritten text (r .at) (phaseOf (r .ended)) (r .finished) (filledIn (k .filled) (r .depth)) (ledgerIn text k r)
 
@@ -110,5 +115,20 @@ pub record SignAt (text : List ℕ) (at sign next : ℕ) : Type 0 where
 
 -- A token read: the reader stands further on, or the text is refused.
 abbrev pub Leads : List ℕ → Book → ℕ → Stepped → Type 0
-Leads text k from (On r) = Holds text k r × (from < r .at)
+Leads text k from (On r) = Holds text k r × (from < r .at) × (r .at ≤ length text)
 Leads text k from (Refused why) = outcome text ≡ refused (why .number) (why .place)
+
+-- Room for 64 names, 256 columns and 64 open brackets.
+pub record Roomy (k : Book) : Type 0 where
+  pub starts-room : length (k .starts) ≡ 64
+  pub sizes-room : length (k .sizes) ≡ 64
+  pub ones-room : length (k .ones) ≡ 256
+  pub zeros-room : length (k .zeros) ≡ 256
+  pub index-room : length (k .index) ≡ 64
+  pub before-room : length (k .before) ≡ 64
+  pub filled-room : length (k .filled) ≡ 64
+
+-- The text read to its end: it is accepted with the ledger that the lists hold, or refused.
+abbrev pub Ends : List ℕ → Book → Stepped → Type 0
+Ends text k (On r) = Holds text k r × (ts : Trees) × (outcome text ≡ accepted ts (ledgerIn text k r))
+Ends text k (Refused why) = outcome text ≡ refused (why .number) (why .place)

@@ -17,3 +17,4 @@ pub record Placed (text starts sizes : List ℕ) (n : ℕ) : Type 0 where
   pub sizes-room : length sizes ≡ 64
   pub few : n ≤ 64
   pub inside : (i : ℕ) → i < n → getD starts i 0 + getD sizes i 0 ≤ length text
+  pub short : (i : ℕ) → i < n → getD sizes i 0 ≤ 32
