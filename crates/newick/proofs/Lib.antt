@@ -2,6 +2,8 @@
 pub mod Runs
 pub mod Names
 pub mod Book
+pub mod Finding
+-- What reading promises.
 pub mod Taken
 pub mod Promises
 pub mod Specimens
