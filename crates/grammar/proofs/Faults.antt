@@ -1,6 +1,6 @@
 -- Each fault of a text has a number from 16 to 20 and stands in the text or at its end (`fault-known`). A text that is refused is refused by the first of
 -- them (`refused-first`), so by such a number at such a place (`refused-known`).
-use mathlib.Core.Path.{_≡_, refl, sym, ap, _∙_, subst}
+use mathlib.Core.Path.{_≡_, refl, sym, _∙_, subst}
 use mathlib.Core.Bool.{Bool, true, false, cond}
 use mathlib.Core.Logic.{_⊎_, inl, inr, ⊎-elim}
 use mathlib.Core.List.{List, [], _∷_, _++_, List·Memᴰ, List·Memᴰ·head, List·Memᴰ·tail, List·Memᴰ·not-nil, List·Memᴰ·append-cases, List·Memᴰ·eq-of-singleton}
@@ -13,11 +13,11 @@ use lib.ListN.{length}
 use Rattle.grammar.specs.Bytes.{Mark, mark, blank, letter, wrong}
 use Rattle.grammar.specs.Bytes as bytes
 use Rattle.grammar.specs.Trees.{Token, word, sign}
-use Rattle.grammar.specs.Reader.{State, before, naming, after, step, start, Outcome, trees, ending}
-use Rattle.grammar.specs.Verdict.{Verdict, accepted, refused, tooLong}
+use Rattle.grammar.specs.Reader.{State, before, naming, after, step, start, ending}
+use Rattle.grammar.specs.Verdict.{Verdict, refused, tooLong}
 use Rattle.grammar.specs.Faults.{Refusal, at, FirstOf, endFaults, nameFaults, kept, ending-there, itself, then-kept, faults}
 use Rattle.grammar.specs.Clerk.{Tally, nothing, wrongs, keep, outcome, faultsOf}
-use Rattle.grammar.proofs.Order.{rank, Rising, done, also, Numbers, end, next}
+use Rattle.grammar.proofs.Order.{rank, Rising, also, Numbers, end, next}
 use Rattle.grammar.proofs.First.{First}
 use Rattle.grammar.proofs.Reading.{numbers, refuses}
 

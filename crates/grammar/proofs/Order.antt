@@ -1,5 +1,5 @@
 -- The faults of a text stand by place, then by number (`rising`), and reading refuses the first of them (`first-fault`).
-use mathlib.Core.Path.{_≡_, refl, sym, ap, _∙_, subst}
+use mathlib.Core.Path.{_≡_, refl, subst}
 use mathlib.Core.Bool.{Bool, true, false, cond}
 use mathlib.Core.List.{List, [], _∷_, _++_}
 use mathlib.Core.Option.{Option, none, some}
@@ -8,12 +8,11 @@ use native.Mathlib.Decide.{decLt}
 use native.Mathlib.Omega.{arith}
 use lib.Dec.{ltb, eqb}
 use lib.ListN.{length, length-append}
-use borrow.Author.Tests.{eqb-true, eqb-false, eq-eqb, ne-eqb, lt-ltb, le-ltb, ltb-true, ltb-false}
+use borrow.Author.Tests.{eqb-true, eqb-false, lt-ltb, le-ltb}
 use Rattle.grammar.specs.Bytes.{Sign, Mark, mark, left, right, comma, semicolon, blank, letter, wrong}
 use Rattle.grammar.specs.Bytes as bytes
-use Rattle.grammar.specs.Trees.{Tree, Trees, leaf, Token, word, sign}
-use Rattle.grammar.specs.Reader.{Done, State, before, naming, after, ended, step, start, Outcome, trees, ending}
-use Rattle.grammar.specs.Verdict.{Check, goes, fails, noted, Next, on, stop, Verdict, accepted, refused, tooLong, named, first, stepped, signed, judge, settled, verdict}
+use Rattle.grammar.specs.Trees.{Tree, leaf, Token, word, sign}
+use Rattle.grammar.specs.Reader.{Done, State, before, naming, after, ended, step, start, ending}
 use Rattle.grammar.specs.Faults.{Refusal, at, endFaults, nameFaults, kept, ending-there, itself, then-kept, faults}
 use Rattle.grammar.proofs.Along.{If}
 

@@ -1,6 +1,6 @@
 -- Reading with the limits accepts exactly the texts that spell trees within them, and gives their taxa and columns (`reads`, `reads-only`).
 -- Any other text is refused by its first fault, by place and then by number (`refuses`), where 16 is the grammar's (`place-16`).
-use mathlib.Core.Path.{_≡_, refl, _∙_}
+use mathlib.Core.Path.{_≡_}
 use mathlib.Core.Bool.{Bool, true, false, cond}
 use mathlib.Core.List.{List, [], _∷_, _++_}
 use Prim.Native.Nat.{ℕ, _+_, _≤_, _<_}

@@ -4,7 +4,7 @@ use mathlib.Core.List.{List, [], _∷_, _++_, map, tail}
 use Prim.Native.Nat.{ℕ, _+_}
 use lib.Dec.{ltb}
 use lib.ListN.{length, set, drop}
-use Rattle.grammar.specs.Bytes.{Sign, left, right, comma, semicolon}
+use Rattle.grammar.specs.Bytes.{left, right, comma, semicolon}
 use Rattle.grammar.specs.Trees.{Token, word, sign}
 use Rattle.grammar.specs.Columns.{Bytes, Column}
 use Rattle.grammar.specs.Limits.{isIn, seen}
@@ -48,7 +48,13 @@ opened x = record {
 -- The last open bracket closes: its clade are the names that came since it opened.
 abbrev pub closed : Tally → List Opened → Tally
 closed x [] = x
-closed x (o ∷ os) = record { taxa = x .taxa; columns = x .columns; here = x .here; brackets = os; clades = set (x .clades) (o .index) (drop (o .names) (x .here)) }
+closed x (o ∷ os) = record {
+  taxa = x .taxa;
+  columns = x .columns;
+  here = x .here;
+  brackets = os;
+  clades = set (x .clades) (o .index) (drop (o .names) (x .here));
+}
 
 -- A tree is finished: its clades are columns, but for the root's, which opened first.
 abbrev pub finished : Tally → Tally

@@ -1,7 +1,7 @@
 -- The reader with a clerk, who is told each token as it ends and keeps what he will, or refuses it by a number. The name that a byte ends is told
 -- before the byte is judged, and the byte's own token after. So "the first place decides, then the lower number".
-use mathlib.Core.Bool.{Bool, true, false, cond}
-use mathlib.Core.List.{List, [], _∷_, _++_}
+use mathlib.Core.Bool.{Bool, false, cond}
+use mathlib.Core.List.{List, [], _∷_}
 use mathlib.Core.Option.{Option, none, some}
 use Prim.Native.Nat.{ℕ, suc, _-_}
 use lib.Dec.{eqb}
@@ -9,7 +9,7 @@ use lib.ListN.{length}
 use Rattle.grammar.specs.Bytes.{Sign, Mark, mark, blank, letter, wrong}
 use Rattle.grammar.specs.Bytes as bytes
 use Rattle.grammar.specs.Trees.{Trees, Token, word, sign}
-use Rattle.grammar.specs.Reader.{State, before, naming, after, step, start, Outcome, trees, ending}
+use Rattle.grammar.specs.Reader.{State, before, naming, after, step, Outcome, trees, ending}
 
 -- What the clerk does at a token.
 pub data Check (T : Type 0) : Type 0 where

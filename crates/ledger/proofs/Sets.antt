@@ -147,11 +147,11 @@ apart : {n : Bytes} {ns ms : List Bytes} → Distinct ns ms → List·Memᴰ n n
 apart {n} (next {m} {ns} {ms} e d) h (List·Memᴰ·head f) = true≢false (sym (mem-isIn (rw f at h)) ∙ e)
 apart {n} (next {m} {ns} {ms} e d) h (List·Memᴰ·tail g) = apart d (Memᴰ·append-left (m ∷ []) h) g
 
--- A name that stands in a list.
-in-list : (ns : List Bytes) (i : ℕ) → i < length ns → List·Memᴰ (getD ns i []) ns
-in-list [] i l = absurd (omega arith)
-in-list (n ∷ ns) zero l = List·Memᴰ·head refl
-in-list (n ∷ ns) (suc i) l = List·Memᴰ·tail (in-list ns i (omega arith))
+-- What stands at a place of a list is in it.
+pub in-list : {A : Type 0} (l : List A) (i : ℕ) (d : A) → i < length l → List·Memᴰ (getD l i d) l
+in-list [] i d b = absurd (omega arith)
+in-list (a ∷ l) zero d b = List·Memᴰ·head refl
+in-list (a ∷ l) (suc i) d b = List·Memᴰ·tail (in-list l i d (omega arith))
 
 -- Taxon i has the number i.
 pub number-of : {ns ms : List Bytes} → Distinct ns ms → (i : ℕ) → i < length ms → number ms (getD ms i []) ≡ i
@@ -163,7 +163,7 @@ number-of (next {m} {ns} {ms} e d) (suc i) l = go (equal (getD ms i []) m) refl 
     go : (c : Bool) → equal (getD ms i []) m ≡ c → number ms (getD ms i []) ≡ i → cond c 0 (suc (number ms (getD ms i []))) ≡ suc i
     go true f ih =
         let same = equal-true (getD ms i []) m f in
-        absurd (apart d (Memᴰ·append-right ns (List·Memᴰ·head same)) (in-list ms i (omega arith)))
+        absurd (apart d (Memᴰ·append-right ns (List·Memᴰ·head same)) (in-list ms i [] (omega arith)))
     go false f ih = ap suc ih
 
 -- Which taxa are in a set, by their names.

@@ -1,13 +1,12 @@
--- What reading source trees promises (document 02, C-11). A text is taken exactly where it spells trees within the limits, and both outputs have room (`accepted-exactly`,
--- `ten-exactly`); any other is refused by the first of its faults (`refused-first`, `sixteen-there`). What is left is a matrix file that the check takes
--- (`matrix-taken`), with columns that say of each name what the trees do (`column-means`), and a name list that reads back (`list-taken`).
+-- What reading source trees promises (document 02, C-11). A text is taken exactly where it spells trees within the limits and both outputs have room
+-- (`accepted-exactly`, `ten-exactly`); any other is refused by the first of its faults (`refused-first`, `sixteen-there`). What is left is a matrix file that the
+-- check takes (`matrix-taken`), with columns that say of each name what the trees do (`column-means`), and a name list that reads back (`list-taken`).
 use mathlib.Core.Path.{_≡_, refl, sym, ap, _∙_}
 use mathlib.Core.List.{List, [], _∷_, List·Memᴰ, List·Memᴰ·head, List·Memᴰ·tail}
-use mathlib.Core.Logic.{_↔_, _⊎_, _≢_}
+use mathlib.Core.Logic.{_↔_, _≢_}
 use Prim.Native.Nat.{ℕ, _+_, _*_, _≤_, _<_}
-use native.Mathlib.Decide.{decLt}
 use native.Mathlib.Omega.{arith}
-use lib.ListN.{length, getD, take, drop, List·getD-map}
+use lib.ListN.{length, getD, List·getD-map}
 use lib.Seq.{take-at}
 use Rattle.record.specs.Bytes.{over}
 use Rattle.record.specs.Records as records
@@ -22,6 +21,7 @@ use Rattle.grammar.proofs.Complete.{unique}
 use Rattle.grammar.proofs.Reading.{place-16}
 use Rattle.grammar.proofs.Faults.{refused-known}
 use Rattle.grammar.proofs.Faults as faults
+use Rattle.ledger.proofs.Sets.{in-list}
 use Rattle.matrix.specs.Matrix.{Matrix, matrixOf, fileOf, columnIn}
 use Rattle.matrix.specs.Check.{checked}
 use Rattle.matrix.specs.declared.Checked.the-variants as checks
@@ -32,12 +32,13 @@ use Rattle.names.specs.Names.{listOf, listLength}
 use Rattle.names.specs.Check as list
 use Rattle.names.specs.declared.Listed.the-variants as lists
 use Rattle.names.proofs.Encoding as encoding
-use Rattle.names.proofs.Encoding.{length-list}
+use Rattle.names.proofs.Lists.{length-list}
 use Rattle.newick.specs.declared.Read.{Read}
 use Rattle.newick.specs.declared.Read.the-variants.{Taken, Refused}
 use Rattle.newick.specs.Read.{matrixFile, nameList, read, outputAfter, returned, readNumbers, Reads}
-use Rattle.newick.specs.Held.{SourceTrees, matrixOfTrees, matrixRoom, namesRoom, Leaves, Encodes}
-use Rattle.newick.proofs.Taken.{Short, Comes, taken, short, faulty, trees-accepted, read-taken, read-short, comes, matrix-legal, length-columns, names-legal, columnOf, encoded, in-list}
+use Rattle.newick.specs.Held.{SourceTrees, matrixOfTrees, matrixRoom, namesRoom, Fit, Short, Leaves, Encodes}
+use Rattle.newick.proofs.Taken.{Comes, taken, short, faulty, trees-accepted, read-taken, read-short, comes}
+use Rattle.newick.proofs.Taken.{matrix-legal, length-columns, names-legal, columnOf, encoded}
 
 abbrev numberOf : Read → ℕ
 numberOf r = returned r .number
@@ -46,20 +47,20 @@ numberOf r = returned r .number
 
 module _ (text : List ℕ) (room space : ℕ) where
   -- Success, "0": the text spells trees within the limits, and both files have room.
-  pub accepted-exactly : ((ts : Trees) × SourceTrees text ts × (matrixRoom ts ≤ room) × (namesRoom ts ≤ space)) ↔ (readNumbers text room space .number ≡ 0)
-  accepted-exactly = (λ (ts, s, a, b). rw (read-taken s room space a b), λ e. back (comes text room space) e)
+  pub accepted-exactly : ((ts : Trees) × SourceTrees text ts × Fit ts room space) ↔ (readNumbers text room space .number ≡ 0)
+  accepted-exactly = (λ (ts, s, f). rw (read-taken s room space f), λ e. back (comes text room space) e)
     where
-      back : {r : Read} → Comes text room space r → returned r .number ≡ 0 → (ts : Trees) × SourceTrees text ts × (matrixRoom ts ≤ room) × (namesRoom ts ≤ space)
-      back (taken ts s a b) e = (ts, s, a, b)
+      back : {r : Read} → Comes text room space r → numberOf r ≡ 0 → (ts : Trees) × SourceTrees text ts × Fit ts room space
+      back (taken ts s f) e = (ts, s, f)
       back (short ts s a) e = absurd (omega arith)
       back (faulty number place f) e = absurd (omega (arith, refused-known text f .0))
 
   -- 10, "shorter than what goes into it", and after all others: the text spells trees within the limits, and one of the files has no room.
-  pub ten-exactly : ((ts : Trees) × SourceTrees text ts × ((room < matrixRoom ts) ⊎ (space < namesRoom ts))) ↔ (readNumbers text room space .number ≡ 10)
+  pub ten-exactly : ((ts : Trees) × SourceTrees text ts × Short ts room space) ↔ (readNumbers text room space .number ≡ 10)
   ten-exactly = (λ (ts, s, a). rw (read-short s room space a), λ e. back (comes text room space) e)
     where
-      back : {r : Read} → Comes text room space r → returned r .number ≡ 10 → (ts : Trees) × SourceTrees text ts × ((room < matrixRoom ts) ⊎ (space < namesRoom ts))
-      back (taken ts s a b) e = absurd (omega arith)
+      back : {r : Read} → Comes text room space r → numberOf r ≡ 10 → (ts : Trees) × SourceTrees text ts × Short ts room space
+      back (taken ts s f) e = absurd (omega arith)
       back (short ts s a) e = (ts, s, a)
       back (faulty number place f) e = absurd (omega (arith, refused-known text f .0))
 
@@ -67,11 +68,11 @@ module _ (text : List ℕ) (room space : ℕ) where
   refused {number} {place} e other = back (comes text room space) e
     where
       back : {r : Read} → Comes text room space r → Refused (records.refused number place) ≡ r → outcome text ≡ verdict.refused number place
-      back (taken ts s a b) e = let z : _≡_ {A = ℕ} 0 1 = cc in absurd (omega arith)
+      back (taken ts s f) e = let z : _≡_ {A = ℕ} 0 1 = cc in absurd (omega arith)
       back (short ts s a) e = absurd (other (ap numberOf e))
       back (faulty r p f) e = rw (ap numberOf e, ap (λ (r : Read). returned r .place) e) f
 
-  -- Any other refusal is the first of all that is wrong with the text, "the first place decides, then the lower number"; it is one of 16 to 20, in the text or at its end.
+  -- Any other refusal is the first of all that is wrong with the text: one of 16 to 20, in the text or at its end.
   pub refused-first : {number place : ℕ} → Refused (records.refused number place) ≡ read text room space → number ≢ 10
       → FirstOf (faultsOf text) (record { number = number; place = place }) × (16 ≤ number) × (number ≤ 20) × (place ≤ length text)
   refused-first {number} {place} e other =
@@ -89,7 +90,7 @@ module _ {text matrix names : List ℕ} (l : Leaves text matrix names) where
   -- It is left of source trees.
   pub leaves-trees : (ts : Trees) × SourceTrees text ts
   leaves-trees =
-      let (ts, s, a, b) = accepted-exactly text (length (l .matrix-output)) (length (l .names-output)) .1 (ap numberOf (sym (l .reads .answers)) ∙ l .success) in
+      let (ts, s, f) = accepted-exactly text (length (l .matrix-output)) (length (l .names-output)) .1 (ap numberOf (sym (l .reads .answers)) ∙ l .success) in
       (ts, s)
 
   module _ {ts : Trees} (s : SourceTrees text ts) where
@@ -97,7 +98,7 @@ module _ {text matrix names : List ℕ} (l : Leaves text matrix names) where
     took = go (comes text (length (l .matrix-output)) (length (l .names-output))) (l .reads .answers)
       where
         go : {r : Read} → Comes text (length (l .matrix-output)) (length (l .names-output)) r → l .r ≡ r → l .r ≡ Taken (matrixRoom ts) (namesRoom ts)
-        go (taken us t a b) e = e ∙ ap (λ (us : Trees). Taken (matrixRoom us) (namesRoom us)) (unique (t .spelt) (s .spelt))
+        go (taken us t f) e = e ∙ ap (λ (us : Trees). Taken (matrixRoom us) (namesRoom us)) (unique (t .spelt) (s .spelt))
         go (short us t a) e = absurd (omega (arith, ap numberOf e, l .success))
         go (faulty number place f) e = absurd (omega (arith, ap numberOf e, l .success, refused-known text f .0))
 
@@ -144,7 +145,8 @@ room-needed {ts = ts} s =
     let m = length-file (length (taxa ts)) (matrixOfTrees ts .columns) in
     let n = length-list (taxa ts) in
     let few = s .within .few in
-    (omega (arith, m, length-columns s), omega (arith, m, length-columns s, s .within .columns), n, omega (arith, n, few, most (taxa ts) (λ n i. names-legal s .names n i .short)))
+    let c = length-columns s in
+    (omega (arith, m, c), omega (arith, m, c, s .within .columns), n, omega (arith, n, few, most (taxa ts) (λ n i. names-legal s .names n i .short)))
   where
     most : (ns : List Bytes) → ((n : Bytes) → List·Memᴰ n ns → length n ≤ 32) → listLength ns ≤ 4 + 36 * length ns
     most [] h = omega arith
@@ -178,13 +180,13 @@ pub reading-trees-succeeds : {text matrix names : List ℕ} {r : Read} {matrix�
 reading-trees-succeeds {text} {matrix} {names} {r} x = (λ e. go (comes text (length matrix) (length names)) (x .answers) e, λ (a, b, e). ap numberOf e)
   where
     go : {q : Read} → Comes text (length matrix) (length names) q → r ≡ q → numberOf r ≡ 0 → (a : ℕ) × (b : ℕ) × (r ≡ Taken a b)
-    go (taken ts s a b) e z = (matrixRoom ts, namesRoom ts, e)
+    go (taken ts s f) e z = (matrixRoom ts, namesRoom ts, e)
     go (short ts s a) e z = absurd (omega (arith, ap numberOf e))
     go (faulty number place f) e z = absurd (omega (arith, ap numberOf e, refused-known text f .0))
 
 -- "A refusal returns its number and place, 0 for every other number, and changes no lent memory."
-pub refused-reading-trees : {text matrix names : List ℕ} {r : Read} {matrix′ names′ : List ℕ} → Reads text matrix names r matrix′ names′ → returned r .number ≢ 0
-    → (returned r .matrix ≡ 0) × (returned r .names ≡ 0) × (matrix′ ≡ matrix) × (names′ ≡ names)
+pub refused-reading-trees : {text matrix names : List ℕ} {r : Read} {matrix′ names′ : List ℕ} → Reads text matrix names r matrix′ names′
+    → returned r .number ≢ 0 → (returned r .matrix ≡ 0) × (returned r .names ≡ 0) × (matrix′ ≡ matrix) × (names′ ≡ names)
 unfolding outputAfter
 refused-reading-trees {r = Taken a b} x some = absurd (some refl)
 refused-reading-trees {r = Refused why} x some = (refl, refl, x .matrix-output, x .names-output)

@@ -14,7 +14,7 @@ use Rattle.grammar.specs.Clerk.{wrongs, keep, outcome}
 use Rattle.grammar.proofs.Specimens.{text}
 use Rattle.ledger.specs.Sets.{setOf}
 use Rattle.matrix.specs.Matrix.{multiplicityBytes, columnsBytes, fileOf}
-use Rattle.names.specs.Names.{listOf}
+use Rattle.names.specs.Names.{namesBytes, listOf}
 use Rattle.newick.specs.Read.{matrixFile, nameList}
 
 -- A number below 256 in 2 bytes, and in 8.
@@ -49,6 +49,9 @@ files s = (matrixFile (outcome (text s)), nameList (outcome (text s)))
 specimens : files "A;" ∷ files "((A,B),C);" ∷ files " ( A , ( B , C ) ) ;\r\n\t((D,(A,E)),C);" ∷ []
     ≡ (head 1 0 ++ end, name 65 ++ listEnd)
     ∷ (head 3 1 ++ column 0b011 0b100 ++ end, name 65 ++ name 66 ++ name 67 ++ listEnd)
-    ∷ (head 5 3 ++ column 0b00110 0b00001 ++ column 0b11001 0b00100 ++ column 0b10001 0b01100 ++ end, name 65 ++ name 66 ++ name 67 ++ name 68 ++ name 69 ++ listEnd) ∷ []
-unfolding text mark ended step ending named judge verdict wrongs keep equal isIn seen number setOf _∪_ _∖_ bytesOf openingOf recordBytes multiplicityBytes columnsBytes fileOf listOf
+    ∷ (
+      head 5 3 ++ column 0b00110 0b00001 ++ column 0b11001 0b00100 ++ column 0b10001 0b01100 ++ end,
+      name 65 ++ name 66 ++ name 67 ++ name 68 ++ name 69 ++ listEnd,
+    ) ∷ []
+unfolding text mark ended step ending named judge verdict wrongs keep equal isIn seen number setOf _∪_ _∖_ bytesOf openingOf recordBytes multiplicityBytes columnsBytes fileOf namesBytes listOf
 specimens = refl

@@ -1,14 +1,15 @@
--- What reading comes to (`comes`), and of the trees that it takes: the matrix is legal (`matrix-legal`), and so are the names (`names-legal`).
-use mathlib.Core.Path.{_≡_, refl, ap}
+-- What reading comes to (`comes`). Of the trees that it takes, the matrix is legal (`matrix-legal`), so are the names (`names-legal`), and each column says of
+-- each name what its tree does (`encoded`).
+use mathlib.Core.Path.{_≡_, refl}
 use mathlib.Core.Bool.{Bool, true, false, _||_, cond}
-use mathlib.Core.Logic.{_⊎_, inl, inr}
-use mathlib.Core.List.{List, [], _∷_, map, List·Memᴰ, List·Memᴰ·head, List·Memᴰ·tail}
-use Prim.Native.Nat.{ℕ, zero, suc, _≤_, _<_}
+use mathlib.Core.Logic.{inl, inr}
+use mathlib.Core.List.{List, [], _∷_, List·Memᴰ, List·Memᴰ·head, List·Memᴰ·tail}
+use Prim.Native.Nat.{ℕ, zero, _<_}
 use native.Mathlib.Decide.{decLt}
 use native.Mathlib.Omega.{arith}
 use lib.Dec.{ltb, lit<}
 use lib.ListN.{length, getD, length-map}
-use borrow.Author.Tests.{le-ltb, lt-ltb, ltb-true, ltb-false}
+use borrow.Author.Tests.{le-ltb, lt-ltb}
 use Rattle.taxa.specs.Sets.{_∈_, _∉_}
 use Rattle.taxa.proofs.Members.{in∖}
 use Rattle.record.specs.Records as records
@@ -29,28 +30,24 @@ use Rattle.names.specs.Names as names
 use Rattle.newick.specs.declared.Read.{Read}
 use Rattle.newick.specs.declared.Read.the-variants.{Taken, Refused}
 use Rattle.newick.specs.Read.{matrixFor, answered, read}
-use Rattle.newick.specs.Held.{SourceTrees, matrixOfTrees, matrixRoom, namesRoom, Encodes}
+use Rattle.newick.specs.Held.{SourceTrees, matrixOfTrees, matrixRoom, namesRoom, Fit, Short, Encodes}
 
 -- ---- what reading comes to
 
--- An output is too short.
-abbrev pub Short : ℕ → ℕ → Trees → Type 0
-Short room space ts = (room < matrixRoom ts) ⊎ (space < namesRoom ts)
-
 pub data Comes (text : List ℕ) (room space : ℕ) : Read → Type 0 where
-  taken : (ts : Trees) → SourceTrees text ts → matrixRoom ts ≤ room → namesRoom ts ≤ space → Comes text room space (Taken (matrixRoom ts) (namesRoom ts))
-  short : (ts : Trees) → SourceTrees text ts → Short room space ts → Comes text room space (Refused (records.refused 10 0))
+  taken : (ts : Trees) → SourceTrees text ts → Fit ts room space → Comes text room space (Taken (matrixRoom ts) (namesRoom ts))
+  short : (ts : Trees) → SourceTrees text ts → Short ts room space → Comes text room space (Refused (records.refused 10 0))
   faulty : (number place : ℕ) → outcome text ≡ refused number place → Comes text room space (Refused (records.refused number place))
 
 module _ {text : List ℕ} {ts : Trees} (s : SourceTrees text ts) where
   pub trees-accepted : outcome text ≡ accepted ts (between (taxa ts) (allColumns ts))
   trees-accepted = reads text ts (s .spelt) (s .within)
 
-  pub read-taken : (room space : ℕ) → matrixRoom ts ≤ room → namesRoom ts ≤ space → read text room space ≡ Taken (matrixRoom ts) (namesRoom ts)
+  pub read-taken : (room space : ℕ) → Fit ts room space → read text room space ≡ Taken (matrixRoom ts) (namesRoom ts)
   unfolding read answered
-  read-taken room space a b = rw (trees-accepted, le-ltb room (matrixRoom ts) a, le-ltb space (namesRoom ts) b)
+  read-taken room space (a, b) = rw (trees-accepted, le-ltb room (matrixRoom ts) a, le-ltb space (namesRoom ts) b)
 
-  pub read-short : (room space : ℕ) → Short room space ts → read text room space ≡ Refused (records.refused 10 0)
+  pub read-short : (room space : ℕ) → Short ts room space → read text room space ≡ Refused (records.refused 10 0)
   unfolding read answered
   read-short room space (inl a) = rw (trees-accepted, lt-ltb room (matrixRoom ts) a)
   read-short room space (inr b) = rw (trees-accepted, lt-ltb space (namesRoom ts) b) (either (ltb room (matrixRoom ts)))
@@ -59,7 +56,8 @@ module _ {text : List ℕ} {ts : Trees} (s : SourceTrees text ts) where
       either true = refl
       either false = refl
 
-read-faulty : (text : List ℕ) {number place : ℕ} (room space : ℕ) → outcome text ≡ refused number place → read text room space ≡ Refused (records.refused number place)
+read-faulty : (text : List ℕ) {number place : ℕ} (room space : ℕ) → outcome text ≡ refused number place
+    → read text room space ≡ Refused (records.refused number place)
 unfolding read answered
 read-faulty text room space e = rw e
 
@@ -69,7 +67,7 @@ comes text room space = go (outcome text) refl
     fit : {ts : Trees} → SourceTrees text ts → Dec (room < matrixRoom ts) → Dec (space < namesRoom ts) → Comes text room space (read text room space)
     fit {ts} s (yes a) d = rw (read-short s room space (inl a)) (short ts s (inl a))
     fit {ts} s (no a) (yes b) = rw (read-short s room space (inr b)) (short ts s (inr b))
-    fit {ts} s (no a) (no b) = rw (read-taken s room space (omega arith) (omega arith)) (taken ts s (omega arith) (omega arith))
+    fit {ts} s (no a) (no b) = let f : Fit ts room space = (omega arith, omega arith) in rw (read-taken s room space f) (taken ts s f)
 
     go : (v : Verdict Tally) → outcome text ≡ v → Comes text room space (read text room space)
     go (accepted ts x) e =
@@ -83,7 +81,8 @@ module _ {text : List ℕ} {ts : Trees} (s : SourceTrees text ts) where
   legal : LegalTally (between (taxa ts) (allColumns ts))
   legal = accepted-legal text (trees-accepted s)
 
-  columns-legal : (cs : List Column) → ((c : Column) → List·Memᴰ c cs → LegalSets (taxa ts) c) → LegalColumns (length (taxa ts)) (matrixFor (taxa ts) cs .columns)
+  columns-legal : (cs : List Column) → ((c : Column) → List·Memᴰ c cs → LegalSets (taxa ts) c)
+      → LegalColumns (length (taxa ts)) (matrixFor (taxa ts) cs .columns)
   columns-legal [] h = none
   columns-legal (c ∷ cs) h =
       let l = h c (List·Memᴰ·head refl) in
@@ -110,11 +109,6 @@ module _ {text : List ℕ} {ts : Trees} (s : SourceTrees text ts) where
 -- The matrix's column of a column of names.
 abbrev pub columnOf : List Bytes → Column → matrix-column.Column
 columnOf taxa c = record { weight = 1; ones = onesOf taxa c; zeros = zerosOf taxa c }
-
-pub in-list : (cs : List Column) (j : ℕ) (d : Column) → j < length cs → List·Memᴰ (getD cs j d) cs
-in-list [] j d l = absurd (omega arith)
-in-list (c ∷ cs) zero d l = List·Memᴰ·head refl
-in-list (c ∷ cs) (suc j) d l = List·Memᴰ·tail (in-list cs j d (omega arith))
 
 pub encoded : {text : List ℕ} {ts : Trees} → SourceTrees text ts → (c : Column) → List·Memᴰ c (allColumns ts) → (i : ℕ) → i < length (taxa ts)
     → Encodes i (getD (taxa ts) i []) (columnOf (taxa ts) c) c

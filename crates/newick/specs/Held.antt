@@ -1,8 +1,8 @@
 -- What people hold: a text of source trees, and the matrix file and the name list that reading leaves.
 use mathlib.Core.Path.{_≡_}
 use mathlib.Core.List.{List, List·Memᴰ}
-use mathlib.Core.Logic.{_↔_}
-use Prim.Native.Nat.{ℕ}
+use mathlib.Core.Logic.{_↔_, _⊎_}
+use Prim.Native.Nat.{ℕ, _≤_, _<_}
 use lib.ListN.{length, take}
 use Rattle.taxa.specs.Sets.{_∈_, _∉_}
 use Rattle.grammar.specs.Trees.{Trees}
@@ -24,13 +24,21 @@ pub record SourceTrees (text : List ℕ) (ts : Trees) : Type 0 where
 abbrev pub matrixOfTrees : Trees → Matrix
 matrixOfTrees ts = matrixFor (taxa ts) (allColumns ts)
 
--- Its file has so many bytes.
+-- How many bytes its file has.
 abbrev pub matrixRoom : Trees → ℕ
 matrixRoom ts = length (fileOf (matrixOfTrees ts))
 
--- And the list of their names.
+-- How many bytes the list of their names has.
 abbrev pub namesRoom : Trees → ℕ
 namesRoom ts = length (listOf (taxa ts))
+
+-- Outputs of these lengths, for the matrix and for the names, have room for both.
+abbrev pub Fit : Trees → ℕ → ℕ → Type 0
+Fit ts room space = (matrixRoom ts ≤ room) × (namesRoom ts ≤ space)
+
+-- One of them is "shorter than what goes into it".
+abbrev pub Short : Trees → ℕ → ℕ → Type 0
+Short ts room space = (room < matrixRoom ts) ⊎ (space < namesRoom ts)
 
 -- Reading took a text, "success returns 0", and these bytes are what it wrote: as many of each output as the length that it returned.
 pub record Leaves (text matrix names : List ℕ) : Type 0 where
