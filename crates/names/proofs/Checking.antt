@@ -12,7 +12,7 @@ use Rattle.record.specs.declared.Cursor.{Cursor}
 use Rattle.record.specs.declared.Refusal.{Refusal}
 use Rattle.record.specs.declared.Passed.the-variants.{At, Refused}
 use Rattle.names.specs.declared.Listed.the-variants as answer
-use Rattle.names.specs.Names.{after, namesFrom, placeFrom}
+use Rattle.names.specs.inner.Places.{after, namesFrom, placeFrom}
 use Rattle.names.specs.Check.{namePassed, endPassed, listedFrom, listed, checked}
 use Rattle.names.proofs.Walking.{names-more, place-more, length-names}
 use Rattle.names.proofs.Passing.{passing}

@@ -18,7 +18,8 @@ use Rattle.record.specs.declared.Passed.the-variants.{At}
 use Rattle.record.proofs.Steps.{Held, held}
 use Rattle.record.proofs.Lengths.{sized, allowed-is, varying-held}
 use Rattle.record.proofs.Passing.{unless, where-holds, through-step}
-use Rattle.names.specs.Names.{nameAt, after}
+use Rattle.names.specs.Names.{nameAt}
+use Rattle.names.specs.inner.Places.{after}
 use Rattle.names.specs.Check.{anyName, spelt, nameJudged, namePassed, endPassed}
 
 -- The record of a name, 1 to 32 long, with no wrong byte and no repeat.

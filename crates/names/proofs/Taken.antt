@@ -18,7 +18,8 @@ use Rattle.record.specs.declared.Passed.{Passed}
 use Rattle.record.specs.declared.Passed.the-variants.{At, Refused}
 use Rattle.record.proofs.Steps.{record-bytes}
 use Rattle.names.specs.declared.Listed.the-variants.{Taken}
-use Rattle.names.specs.Names.{LegalName, Legal, nameBytes, endBytes, listOf, nameAt, after, placeFrom}
+use Rattle.names.specs.Names.{LegalName, Legal, nameBytes, endBytes, listOf, nameAt}
+use Rattle.names.specs.inner.Places.{after, placeFrom}
 use Rattle.names.specs.Check.{Listing, names, refusal, namePassed, endPassed, ended, goesOn, listedIn, listed, namesOf, namesIn, counted, checked}
 use Rattle.names.proofs.Spelling.{spelt-name}
 use Rattle.names.proofs.Lists.{list-none, list-first}

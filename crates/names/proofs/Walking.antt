@@ -11,7 +11,8 @@ use lib.ListN.{length, take, drop}
 use Rattle.grammar.specs.Columns.{Bytes}
 use Rattle.grammar.specs.Limits.{equal, isIn}
 use Rattle.record.specs.Bytes.{numberAt}
-use Rattle.names.specs.Names.{nameAt, after, namesFrom, placeFrom}
+use Rattle.names.specs.Names.{nameAt}
+use Rattle.names.specs.inner.Places.{after, namesFrom, placeFrom}
 
 module _ (file : List ℕ) where
   -- The name is what stands between the record's opening and its end.

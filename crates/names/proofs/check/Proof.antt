@@ -10,7 +10,7 @@ use Rattle.record.specs.Records as records
 use Rattle.record.specs.Records.{finds}
 use Rattle.record.specs.declared.Passed.the-variants.{At}
 use Rattle.names.specs.declared.Listed.{Listed}
-use Rattle.names.specs.Names.{namesFrom}
+use Rattle.names.specs.inner.Places.{namesFrom}
 use Rattle.names.specs.Check.{namePassed, checked, returned, Checks}
 use Rattle.names.proofs.Walking.{place-grows}
 use Rattle.names.proofs.Passing.{passing}

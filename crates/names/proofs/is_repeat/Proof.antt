@@ -4,8 +4,8 @@ use mathlib.Core.Path.{_≡_, sym, _∙_}
 use native.Mathlib.Omega.{arith}
 use Prim.Native.Nat.{_-_}
 use Rattle.grammar.specs.Limits.{isIn}
-use Rattle.names.specs.Names.{nameAt, after, namesFrom, placeFrom}
-use Rattle.names.specs.inner.Places.{Whole}
+use Rattle.names.specs.Names.{nameAt}
+use Rattle.names.specs.inner.Places.{after, namesFrom, placeFrom, Whole}
 use Rattle.names.proofs.Walking.{in-first, in-others, in-none, place-one, place-grows}
 use Rattle.names.proofs.is_repeat.Statement.{statement}
 use Rattle.names.proofs.is_repeat.Tie as tie

@@ -5,9 +5,9 @@ use mathlib.Core.List.{[]}
 use native.Mathlib.Omega.{arith}
 use Prim.Native.Nat.{_-_}
 use lib.ListN.{getD}
-use Rattle.names.specs.Names.{nameAt, after, placeFrom}
+use Rattle.names.specs.Names.{nameAt}
 use Rattle.names.specs.Check.{namesIn}
-use Rattle.names.specs.inner.Places.{Whole}
+use Rattle.names.specs.inner.Places.{after, placeFrom, Whole}
 use Rattle.names.proofs.Walking.{place-one, place-grows, place-none}
 use Rattle.names.proofs.Taken.{There, taken-name, named-taken}
 use Rattle.names.proofs.name_at.Statement.{statement}
