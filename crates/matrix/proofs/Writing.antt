@@ -1,5 +1,5 @@
--- The file of a matrix as it is written: its records (`head-flat`, `column-flat`), the first columns of weight 1 of two lists (`first-next`), and how long it is
--- (`length-file`).
+-- The file of a matrix as it is written: its records (`head-flat`, `column-flat`), columns of weight 1 one after the other (`first-next`), the whole
+-- (`file-flat`), and how long it is (`length-file`).
 use mathlib.Core.Path.{_≡_, refl, sym, ap, _∙_}
 use mathlib.Core.List.{List, [], _∷_, _++_, map, append-assoc, append-nil}
 use Prim.Native.Nat.{ℕ, zero, suc, _+_, _*_, _≤_, _<_}
@@ -36,7 +36,7 @@ unfolding columnsBytes
 length-columns [] = refl
 length-columns (c ∷ cs) = length-append (columnBytes c) (columnsBytes cs) ∙ omega (arith, length-column c, length-columns cs)
 
-pub columns-next : (cs : List Column) (c : Column) → columnsBytes (cs ++ c ∷ []) ≡ columnsBytes cs ++ columnBytes c
+columns-next : (cs : List Column) (c : Column) → columnsBytes (cs ++ c ∷ []) ≡ columnsBytes cs ++ columnBytes c
 unfolding columnsBytes
 columns-next [] c = append-nil (columnBytes c)
 columns-next (d ∷ cs) c = ap (_++_ (columnBytes d)) (columns-next cs c) ∙ sym (append-assoc (columnBytes d) (columnsBytes cs) (columnBytes c))
@@ -44,8 +44,8 @@ columns-next (d ∷ cs) c = ap (_++_ (columnBytes d)) (columns-next cs c) ∙ sy
 -- ---- columns of weight 1
 
 -- A column of weight 1.
-abbrev pub weighs-one : ℕ → ℕ → Column
-weighs-one ones zeros = record { weight = 1; ones = ones; zeros = zeros }
+abbrev pub weightOne : ℕ → ℕ → Column
+weightOne ones zeros = record { weight = 1; ones = ones; zeros = zeros }
 
 pub length-weighing : (ones zeros : List ℕ) → length ones ≡ length zeros → length (weighingOne ones zeros) ≡ length ones
 unfolding weighingOne
@@ -53,18 +53,18 @@ length-weighing [] zeros e = refl
 length-weighing (o ∷ ones) [] e = absurd (omega arith)
 length-weighing (o ∷ ones) (z ∷ zeros) e = ap suc (length-weighing ones zeros (omega arith))
 
-pub weighing-map : {A : Type 0} (f g : A → ℕ) (cs : List A) → weighingOne (map f cs) (map g cs) ≡ map (λ c. weighs-one (f c) (g c)) cs
+pub weighing-map : {A : Type 0} (f g : A → ℕ) (cs : List A) → weighingOne (map f cs) (map g cs) ≡ map (λ c. weightOne (f c) (g c)) cs
 unfolding weighingOne
 weighing-map f g [] = refl
-weighing-map f g (c ∷ cs) = ap (_∷_ (weighs-one (f c) (g c))) (weighing-map f g cs)
+weighing-map f g (c ∷ cs) = ap (_∷_ (weightOne (f c) (g c))) (weighing-map f g cs)
 
 weighing-next : (ones zeros : List ℕ) (i : ℕ) → i < length ones → i < length zeros
-    → weighingOne (take (suc i) ones) (take (suc i) zeros) ≡ weighingOne (take i ones) (take i zeros) ++ weighs-one (getD ones i 0) (getD zeros i 0) ∷ []
+    → weighingOne (take (suc i) ones) (take (suc i) zeros) ≡ weighingOne (take i ones) (take i zeros) ++ weightOne (getD ones i 0) (getD zeros i 0) ∷ []
 unfolding weighingOne
 weighing-next [] zeros i l h = absurd (omega arith)
 weighing-next (o ∷ ones) [] i l h = absurd (omega arith)
 weighing-next (o ∷ ones) (z ∷ zeros) zero l h = refl
-weighing-next (o ∷ ones) (z ∷ zeros) (suc i) l h = ap (_∷_ (weighs-one o z)) (weighing-next ones zeros i (omega arith) (omega arith))
+weighing-next (o ∷ ones) (z ∷ zeros) (suc i) l h = ap (_∷_ (weightOne o z)) (weighing-next ones zeros i (omega arith) (omega arith))
 
 -- The first columns of two lists, as they are written one after the other.
 module _ (ones zeros : List ℕ) where
@@ -81,7 +81,7 @@ module _ (ones zeros : List ℕ) where
     length-first-bytes l h = length-columns (firstColumns i) ∙ rw (length-first l h)
 
     pub first-next : i < length ones → i < length zeros
-        → columnsBytes (firstColumns (i + 1)) ≡ columnsBytes (firstColumns i) ++ columnBytes (weighs-one (getD ones i 0) (getD zeros i 0))
+        → columnsBytes (firstColumns (i + 1)) ≡ columnsBytes (firstColumns i) ++ columnBytes (weightOne (getD ones i 0) (getD zeros i 0))
     first-next l h = rw (add-one i) (ap columnsBytes (weighing-next ones zeros i l h) ∙ columns-next (firstColumns i) _)
 
 -- ---- the file

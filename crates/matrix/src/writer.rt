@@ -35,9 +35,8 @@ fn put_columns(out: &mut [u8], ones: &[u64; 256], zeros: &[u64; 256], m: usize)
     ensures { λ _. ⌜
         now (out .exit) ≡ over (columnsBytes (weighingOne (take m (now (ones .entry))) (take m (now (zeros .entry))))) 0 (now (out .entry)) ⌝ }
 {
-    let mut i: usize = 0;
-    let mut at: usize = 0;
-    while i < m {
+    for i in 0usize..m {
+        let at = 22 * i;
         put_column(
             &mut out[at..],
             Column {
@@ -46,8 +45,6 @@ fn put_columns(out: &mut [u8], ones: &[u64; 256], zeros: &[u64; 256], m: usize)
                 zeros: zeros[i],
             },
         );
-        i += 1;
-        at += 22;
     }
 }
 

@@ -24,8 +24,8 @@ use Rattle.matrix.proofs.Writing.{weighing-map, length-weighing, length-file}
 use Rattle.names.specs.Names.{listOf, listLength}
 use Rattle.names.proofs.Lists.{length-list}
 use Rattle.newick.specs.declared.Reading.{Reading}
-use Rattle.newick.specs.declared.Read.{Read}
-use Rattle.newick.specs.declared.Read.the-variants.{Taken, Refused}
+use Rattle.newick.specs.declared.Derived.{Derived}
+use Rattle.newick.specs.declared.Derived.the-variants.{Taken, Refused}
 use Rattle.newick.specs.Read.{matrixFor, matrixFile, nameList, answered, read, outputAfter, returned, Reads}
 use Rattle.newick.specs.inner.Names.{namesIn}
 use Rattle.newick.specs.inner.Book.{Book, ledgerIn, Holds}
@@ -79,7 +79,7 @@ module _ {text starts sizes ones zeros : List ℕ} {n m : ℕ} (g : Found text s
   list-size = rw (list-found, length-list (namesIn text starts sizes n))
 
   module _ (matrix names : List ℕ) where
-    abbrev sizes-read : Read
+    abbrev sizes-read : Derived
     sizes-read = Taken (length (matrixFile (outcome text))) (length (nameList (outcome text)))
 
     read-found : read text (length matrix) (length names)
@@ -99,7 +99,7 @@ module _ {text starts sizes ones zeros : List ℕ} {n m : ℕ} (g : Found text s
       unfolding outputAfter
       short-list l =
           let e : Refused (records.refused 10 0) ≡ read text (length matrix) (length names) =
-              sym (read-found ∙ rw (file-size, le-ltb (length matrix) (12 + 22 * m) fits, list-size, lt-ltb (length names) (listLength (namesIn text starts sizes n)) l))
+          sym (read-found ∙ rw (file-size, le-ltb (length matrix) (12 + 22 * m) fits, list-size, lt-ltb (length names) (listLength (namesIn text starts sizes n)) l))
           in
           record { answers = e; numbers = ap returned e; matrix-output = refl; names-output = refl }
 
@@ -109,6 +109,6 @@ module _ {text starts sizes ones zeros : List ℕ} {n m : ℕ} (g : Found text s
       unfolding outputAfter
       both-written l =
           let e : Taken (12 + 22 * m) (listLength (namesIn text starts sizes n)) ≡ read text (length matrix) (length names) =
-              sym (read-found ∙ rw (file-size, le-ltb (length matrix) (12 + 22 * m) fits, list-size, le-ltb (length names) (listLength (namesIn text starts sizes n)) l))
+          sym (read-found ∙ rw (file-size, le-ltb (length matrix) (12 + 22 * m) fits, list-size, le-ltb (length names) (listLength (namesIn text starts sizes n)) l))
           in
           record { answers = e; numbers = ap returned e; matrix-output = rw file-found; names-output = rw list-found }

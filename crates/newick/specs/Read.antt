@@ -14,8 +14,8 @@ use Rattle.ledger.specs.Sets.{onesOf, zerosOf}
 use Rattle.matrix.specs.Matrix as matrix
 use Rattle.matrix.specs.Matrix.{Matrix, fileOf}
 use Rattle.names.specs.Names.{listOf}
-use Rattle.newick.specs.declared.Read.{Read}
-use Rattle.newick.specs.declared.Read.the-variants.{Taken, Refused}
+use Rattle.newick.specs.declared.Derived.{Derived}
+use Rattle.newick.specs.declared.Derived.the-variants.{Taken, Refused}
 
 -- "Every inner vertex but the root gives a column of weight 1", as sets of taxa "numbered by first appearance".
 abbrev pub matrixFor : List Bytes → List Column → Matrix
@@ -35,18 +35,18 @@ nameList (accepted ts x) = listOf (x .taxa)
 nameList (refused number place) = []
 
 -- The text's refusals come first, then 10, "shorter than what goes into it"; `room` and `space` are the lengths of the outputs for the matrix and for the names.
-unfoldable pub answered : Verdict Tally → ℕ → ℕ → Read
+unfoldable pub answered : Verdict Tally → ℕ → ℕ → Derived
 answered (refused number place) room space = Refused (records.refused number place)
 answered (accepted ts x) room space =
     cond (ltb room (length (matrixFile (accepted ts x))) || ltb space (length (nameList (accepted ts x)))) (Refused (records.refused 10 0))
     (Taken (length (matrixFile (accepted ts x))) (length (nameList (accepted ts x))))
 
 -- What reading a text answers: the lengths of what is written.
-unfoldable pub read : List ℕ → ℕ → ℕ → Read
+unfoldable pub read : List ℕ → ℕ → ℕ → Derived
 read text room space = answered (outcome text) room space
 
 -- "A refusal [..] changes no lent memory." "Output past the written length stays as it was."
-unfoldable pub outputAfter : List ℕ → Read → List ℕ → List ℕ
+unfoldable pub outputAfter : List ℕ → Derived → List ℕ → List ℕ
 outputAfter file (Refused why) out = out
 outputAfter file (Taken matrix names) out = over file 0 out
 
@@ -58,7 +58,7 @@ pub record Returned : Type 0 where
   pub names : ℕ
 
 -- These numbers, by the case.
-abbrev pub returned : Read → Returned
+abbrev pub returned : Derived → Returned
 returned (Taken matrix names) = record { number = 0; place = 0; matrix = matrix; names = names }
 returned (Refused why) = record { number = why .number; place = why .place; matrix = 0; names = 0 }
 
@@ -67,7 +67,7 @@ abbrev pub readNumbers : List ℕ → ℕ → ℕ → Returned
 readNumbers text room space = returned (read text room space)
 
 -- What reading promises of its answer, and of both outputs at the end.
-pub record Reads (text matrix names : List ℕ) (r : Read) (matrix′ names′ : List ℕ) : Type 0 where
+pub record Reads (text matrix names : List ℕ) (r : Derived) (matrix′ names′ : List ℕ) : Type 0 where
   pub answers : r ≡ read text (length matrix) (length names)
   pub numbers : returned r ≡ readNumbers text (length matrix) (length names)
   pub matrix-output : matrix′ ≡ outputAfter (matrixFile (outcome text)) r matrix

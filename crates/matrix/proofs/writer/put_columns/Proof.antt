@@ -12,15 +12,14 @@ use Rattle.matrix.proofs.writer.put_columns.Statement.{statement}
 use Rattle.matrix.proofs.writer.put_columns.Tie as tie
 
 abbrev Inv-loop : tie.InvT-loop
-Inv-loop out₀ ones zeros m i₀ at₀ out i at =
-    (i ≤ m) × (at ≡ 22 * i) × (length out ≡ length out₀) × (out ≡ over (columnsBytes (firstColumns ones zeros i)) 0 out₀)
+Inv-loop out₀ ones zeros m i₀ out i = (i ≤ m) × (length out ≡ length out₀) × (out ≡ over (columnsBytes (firstColumns ones zeros i)) 0 out₀)
 
 abbrev μ-loop : tie.MeasureT-loop
-μ-loop out₀ ones zeros m i₀ at₀ out i at = m - i
+μ-loop out₀ ones zeros m i₀ out i = m - i
 
 loop-holds : tie.Need-loop-holds Inv-loop μ-loop
 unfolding columnsBytes weighingOne
-loop-holds c = (search needs, search needs, search needs, nothing 0 _)
+loop-holds c = (search needs, search needs, nothing 0 _)
 
 loop-again : tie.Need-loop-again Inv-loop μ-loop
 loop-again c =
@@ -29,30 +28,19 @@ loop-again c =
     let start = put .before .before .before .before .before .before .before in
     let a = start .args in
     let far = length-first-bytes (a .ones .now) (a .zeros .now) (l .i) (omega arith) (omega arith) in
-    let written = next _ _ _ _ _ (l .inv .3) (put .put-column .ensures) (omega arith) (omega arith) in
-    (search needs, search needs, search needs, rw (first-next (a .ones .now) (a .zeros .now) (l .i) (omega arith) (omega arith)) written)
+    let written = next _ _ _ _ _ (l .inv .2) (put .put-column .ensures) (omega arith) (omega arith) in
+    (search needs, search needs, rw (first-next (a .ones .now) (a .zeros .now) (l .i) (omega arith) (omega arith)) written)
 
 returns : tie.Need-returns Inv-loop μ-loop
-returns c = let all : c .before .loop .i ≡ c .before .before .before .args .m = omega arith in rw (← all) (c .before .loop .inv .3)
+returns c = let all : c .before .loop .i ≡ c .before .before .before .args .m = omega arith in rw (← all) (c .before .loop .inv .2)
 
 pub put-columns-spec : {M : Type 1} → statement M
 put-columns-spec =
     tie.close
     (tie.spec
-    Inv-loop
-    μ-loop
-    loop-holds
-    (λ c. search needs)
-    (λ c. search needs)
-    (λ c. search needs)
-    (λ c. search needs)
-    (λ c. search needs)
-    (λ c. search needs)
-    (λ c. search needs)
-    (λ c κs. search needs)
-    (λ c. search needs)
-    (λ c. search needs)
-    (λ c. search needs)
+    Inv-loop μ-loop loop-holds
+    (λ c. search needs) (λ c. search needs) (λ c. search needs) (λ c. search needs) (λ c. search needs) (λ c. search needs) (λ c. search needs) (λ c. search needs)
+    (λ c κs. search needs) (λ c. search needs) (λ c. search needs)
     loop-again
     (λ c. search needs)
     returns)
