@@ -1,20 +1,16 @@
 -- The records of an answer as bytes: in the order in which they are written (`head-flat` ..), and how long each is.
 use mathlib.Core.Path.{_≡_}
-use mathlib.Core.List.{List, _++_, append-assoc, append-nil}
+use mathlib.Core.List.{List, _++_, append-assoc}
 use Prim.Native.Nat.{ℕ, _+_, _*_}
 use native.Mathlib.Omega.{arith}
 use lib.ListN.{length, length-append}
 use Rattle.record.specs.Bytes.{bytesOf}
 use Rattle.record.specs.Records as records
 use Rattle.record.specs.Records.{recordOf, openingOf, recordBytes}
-use Rattle.record.specs.declared.Record.{Record}
 use Rattle.record.proofs.Numbers.{length-bytes}
+use Rattle.record.proofs.Files.{length-opening, opening-only}
 use Rattle.answer.specs.Content.{Content, run, headBytes, groupBytes, flipsBytes, endBytes, groupRecord, flipsRecord, fileOf, lengthOf}
 use Rattle.answer.proofs.Runs.{length-run}
-
-pub length-opening : (it : Record) → length (openingOf it) ≡ 4
-unfolding openingOf
-length-opening it = simp (length-append, length-bytes)
 
 pub head-flat : (n m groups flips total : ℕ)
     → headBytes n m groups flips total ≡ openingOf (recordOf records.answerHead) ++ bytesOf 2 n ++ bytesOf 2 m ++ bytesOf 2 groups ++ bytesOf 2 flips ++ bytesOf 4 total
@@ -30,8 +26,8 @@ unfolding flipsBytes recordBytes
 flips-flat column raised lowered = simp append-assoc
 
 pub end-flat : endBytes ≡ openingOf (recordOf records.answerEnd)
-unfolding endBytes recordBytes
-end-flat = append-nil (openingOf (recordOf records.answerEnd))
+unfolding endBytes
+end-flat = opening-only (recordOf records.answerEnd)
 
 pub length-head : (n m groups flips total : ℕ) → length (headBytes n m groups flips total) ≡ 16
 length-head n m groups flips total = rw (head-flat n m groups flips total) (simp (length-append, length-opening, length-bytes))

@@ -1,4 +1,4 @@
--- The shape of a state tells whether a byte can stand there, and the shape of the next state (`goes-on`, `stops-there`), and whether the file can end (`may-end`).
+-- A state's shape tells whether a byte can stand there, and the next shape (`goes-on`, `stops-there`), and whether the file can end (`may-end`, `may-not-end`).
 use mathlib.Core.Path.{_≡_, refl, sym, _∙_}
 use mathlib.Core.Bool.{Bool, true, false, true≢false}
 use mathlib.Core.List.{List, [], _∷_, map}
@@ -57,17 +57,26 @@ stops-there σ b m e = go (step σ b m) refl (step-shape σ b m ∙ e)
     go none f i = f
     go (some σ′) f i = let z : _≡_ {A = ℕ} 0 1 = cc in absurd (omega arith)
 
--- The file can end exactly at such a shape.
-clash : {A : Type 0} → true ≡ false → A
+pub clash : {A : Type 0} → true ≡ false → A
 clash e = absurd (true≢false e)
 
-pub may-end : (p : ℕ) (σ : State) → shapeOf σ .phase ≡ beginning → shapeOf σ .some-tree ≡ true → shapeOf σ .brackets ≡ [] → (ts : Trees) × (ending p σ ≡ trees ts)
+-- The file can end exactly at such a shape.
+pub may-end : (p : ℕ) (σ : State) → shapeOf σ .phase ≡ beginning → shapeOf σ .some-tree ≡ true → shapeOf σ .brackets ≡ []
+    → (ts : Trees) × (ending p σ ≡ trees ts)
 unfolding ending
 may-end p (before (some ts) []) e f g = (ts, refl)
 may-end p (before none fs) e f g = clash (sym f)
 may-end p (before (some ts) (h ∷ fs)) e f g = clash cc
 may-end p (naming d fs n) e f g = clash cc
 may-end p (after d fs t) e f g = clash cc
+
+pub may-not-end : (p : ℕ) (σ : State) → (shapeOf σ ≡ shape beginning true [] → ⊥) → ending p σ ≡ Outcome.refused p
+unfolding ending
+may-not-end p (before none fs) f = refl
+may-not-end p (before (some ts) []) f = absurd (f refl)
+may-not-end p (before (some ts) (g ∷ fs)) f = refl
+may-not-end p (naming d fs n) f = refl
+may-not-end p (after d fs t) f = refl
 
 pub ends-so : (p : ℕ) (σ : State) {ts : Trees} → ending p σ ≡ trees ts → shapeOf σ ≡ shape beginning true []
 unfolding ending

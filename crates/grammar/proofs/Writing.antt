@@ -18,7 +18,7 @@ data Words : List Token → Type 0 where
   a-sign : {g : Sign} {k : List Token} → Words k → Words (sign g ∷ k)
   a-word : {n : Bytes} {k : List Token} → Name n → Words k → Words (word n ∷ k)
 
-sign-mark : (g : Sign) → mark (byte g) ≡ bytes.sign g
+pub sign-mark : (g : Sign) → mark (byte g) ≡ bytes.sign g
 unfolding mark
 sign-mark left = refl
 sign-mark right = refl

@@ -4,4 +4,5 @@ pub mod Multiplying
 pub mod Passing
 pub mod Taken
 pub mod Encoding
+pub mod Writing
 pub mod Places

@@ -81,6 +81,12 @@ unfoldable pub fileOf : Matrix → List ℕ
 fileOf M =
     headBytes (M .taxa) (length (M .columns)) ++ (multiplicityBytes (M .multiplicities) ++ (columnsBytes (M .columns) ++ endBytes))
 
+-- The columns with these 1-sets and 0-sets, each of weight 1.
+unfoldable pub weighingOne : List ℕ → List ℕ → List Column
+weighingOne [] zeros = []
+weighingOne (o ∷ ones) [] = []
+weighingOne (o ∷ ones) (z ∷ zeros) = record { weight = 1; ones = o; zeros = z } ∷ weighingOne ones zeros
+
 -- ---- the matrix in a file
 
 -- Whether the record after the head, which takes 8 bytes, is there and of kind 5.

@@ -1,6 +1,8 @@
 // A matrix file: one head, perhaps n multiplicities, m columns, one end. The operation "check a matrix", and the columns of a file that it takes.
 // Promises: every byte string is taken with its n and m or refused with document 01's number and place; file and content
 // determine each other. Rests on taxa and record.
+pub mod writer;
+
 use record::Cursor;
 use record::Passed;
 use record::Record;

@@ -1,21 +1,21 @@
 -- The check's loop: where it stands after some names (`Reached`), how it begins and goes on (`begun`, `gone-on`), and what it ends with.
-use mathlib.Core.Path.{_≡_, refl, sym, ap, _∙_}
+use mathlib.Core.Path.{_≡_, sym, ap, _∙_}
 use mathlib.Core.Bool.{true, false}
-use mathlib.Core.List.{List, [], _∷_, _++_}
-use Prim.Native.Nat.{ℕ, zero, suc, _+_, _≤_, _<_}
+use mathlib.Core.List.{List}
+use Prim.Native.Nat.{ℕ, _+_, _≤_}
 use native.Mathlib.Omega.{arith}
 use lib.ListN.{length}
 use Rattle.grammar.specs.Columns.{Bytes}
 use Rattle.record.specs.Records as records
-use Rattle.record.specs.Records.{finds, left}
+use Rattle.record.specs.Records.{finds}
 use Rattle.record.specs.declared.Cursor.{Cursor}
 use Rattle.record.specs.declared.Refusal.{Refusal}
 use Rattle.record.specs.declared.Passed.the-variants.{At, Refused}
 use Rattle.names.specs.declared.Listed.the-variants as answer
-use Rattle.names.specs.Names.{nameAt, after, namesFrom, placeFrom}
-use Rattle.names.specs.Check.{namePassed, endPassed, listedFrom, listed, counted, checked}
+use Rattle.names.specs.inner.Places.{after, namesFrom, placeFrom}
+use Rattle.names.specs.Check.{namePassed, endPassed, listedFrom, listed, checked}
 use Rattle.names.proofs.Walking.{names-more, place-more, length-names}
-use Rattle.names.proofs.Passing.{Passing, passing}
+use Rattle.names.proofs.Passing.{passing}
 use Rattle.names.proofs.Turns.{listed-step}
 
 -- After `count` names the file comes to what is left to read after them.

@@ -2,7 +2,7 @@
 use mathlib.Core.Path.{_≡_, refl, sym, ap, _∙_}
 use mathlib.Core.Bool.{true, false}
 use mathlib.Core.List.{List, [], _∷_, _++_, append-assoc, append-nil, List·Memᴰ, List·Memᴰ·head, List·Memᴰ·tail}
-use Prim.Native.Nat.{ℕ, zero, suc, _+_, _≤_, _<_}
+use Prim.Native.Nat.{ℕ, _+_}
 use native.Mathlib.Nat.{add-zero}
 use native.Mathlib.Omega.{arith}
 use lib.Dec.{lit<}
@@ -11,7 +11,7 @@ use lib.Seq.{take-at}
 use borrow.Author.Tests.{eq-eqb, ne-eqb}
 use Rattle.grammar.specs.Columns.{Bytes}
 use Rattle.grammar.specs.Text.{Name, only, more}
-use Rattle.grammar.specs.Limits.{isIn, Distinct, end, next}
+use Rattle.grammar.specs.Limits.{isIn, Distinct, next}
 use Rattle.record.specs.Bytes.{numberAt, File}
 use Rattle.record.specs.Records as records
 use Rattle.record.specs.Records.{recordOf, finds, varyingStep}
@@ -38,7 +38,8 @@ module _ (file : List ℕ) where
   module _ {n : Bytes} (l : LegalName n) (at : ℕ) (rest : List ℕ) (e : drop at file ≡ nameBytes n ++ rest) where
     step-is : Payload (at + 4) (cursor (at + 4 + length n)) ≡ varyingStep file at anyName
     step-is =
-        varying-taken file n rest at anyName e (is-allowed anyName (length n) (name-some (l .spelt)) (l .short) (omega arith)) (omega (arith, l .short)) (lit< tt)
+        let allowed = is-allowed anyName (length n) (name-some (l .spelt)) (l .short) (omega arith) in
+        varying-taken file n rest at anyName e allowed (omega (arith, l .short)) (lit< tt)
 
     length-is : numberAt 2 file at ≡ length n
     length-is = omega (arith, varying-held anyName step-is .1 .moves)
@@ -67,7 +68,9 @@ module _ (file : List ℕ) where
     end-step = record-taken file [] [] at (recordOf records.namesEnd) end-stands (lit< tt) (lit< tt) refl
 
     finds-end : finds file at records.name ≡ false
-    finds-end = let h = held end-step in sym (finds-kind file at records.name (omega arith)) ∙ ne-eqb (numberAt 2 file (at + 2)) records.name (λ k. omega (arith, h .kind))
+    finds-end =
+        let h = held end-step in
+        sym (finds-kind file at records.name (omega arith)) ∙ ne-eqb (numberAt 2 file (at + 2)) records.name (λ k. omega (arith, h .kind))
 
     end-passed : endPassed file (cursor at) ≡ At (cursor (at + 4))
     unfolding endPassed

@@ -9,3 +9,4 @@ pub mod Checking
 pub mod Taken
 pub mod Encoding
 pub mod Places
+pub mod Specimens

@@ -1,4 +1,4 @@
--- The file of a list: without names (`list-none`), with a first name (`list-first`), its names in two parts (`names-append`), and how long it is (`length-list`).
+-- The file of a list: without names (`list-none`), with a first name (`list-first`), with names and more (`names-append`); how long it is (`length-list`).
 use mathlib.Core.Path.{_≡_, refl, sym, ap, _∙_}
 use mathlib.Core.List.{List, [], _∷_, _++_, append-assoc}
 use lib.ListN.{length, length-append}

@@ -1,8 +1,8 @@
 -- What a name and an end that were passed say of the file (`Passing`, `Ending`).
-use mathlib.Core.Path.{_≡_, refl, sym, _∙_, subst₂}
+use mathlib.Core.Path.{_≡_, refl, subst₂}
 use mathlib.Core.Bool.{true, false}
 use mathlib.Core.List.{List}
-use Prim.Native.Nat.{ℕ, _+_, _≤_, _<_}
+use Prim.Native.Nat.{ℕ, _+_, _≤_}
 use native.Mathlib.Omega.{arith}
 use lib.Dec.{ltb, lit≤}
 use lib.ListN.{length, drop, length-drop}
@@ -14,12 +14,12 @@ use Rattle.record.specs.Bytes.{numberAt}
 use Rattle.record.specs.Records as records
 use Rattle.record.specs.Records.{recordOf, left, step, varyingStep, nothingAfter}
 use Rattle.record.specs.declared.Cursor.{Cursor}
-use Rattle.record.specs.declared.Record.{Record}
 use Rattle.record.specs.declared.Passed.the-variants.{At}
 use Rattle.record.proofs.Steps.{Held, held}
 use Rattle.record.proofs.Lengths.{sized, allowed-is, varying-held}
 use Rattle.record.proofs.Passing.{unless, where-holds, through-step}
-use Rattle.names.specs.Names.{nameAt, after}
+use Rattle.names.specs.Names.{nameAt}
+use Rattle.names.specs.inner.Places.{after}
 use Rattle.names.specs.Check.{anyName, spelt, nameJudged, namePassed, endPassed}
 
 -- The record of a name, 1 to 32 long, with no wrong byte and no repeat.
@@ -41,7 +41,8 @@ judged-name before n place c e =
     let (new, e″) = unless (isIn n before) _ _ e′ in
     (letters, new, same-cursor e″)
 
-pub passing : (file : List ℕ) (before : List Bytes) (here : Cursor) {next : Cursor} → At next ≡ namePassed file before here → Passing file before (here .at) next
+pub passing : (file : List ℕ) (before : List Bytes) (here : Cursor) {next : Cursor} → At next ≡ namePassed file before here
+    → Passing file before (here .at) next
 unfolding namePassed
 passing file before here {next} e =
     let l = numberAt 2 file (here .at) in

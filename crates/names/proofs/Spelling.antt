@@ -1,8 +1,8 @@
--- The bytes of a name: what may stand in one (`letter-marked`, `marked-letter`) and so what is a name (`spelt-name`, `name-spelt`), byte by byte (`spelt-next`);
--- two names compared byte by byte (`equal-next`), where they are as long as each other (`other-length`).
+-- The bytes of a name: what may stand in one (`letter-marked`, `marked-letter`) and so what is a name (`spelt-name`, `name-spelt`), byte by byte
+-- (`spelt-next`); two names compared byte by byte (`equal-next`), where they are as long as each other (`other-length`).
 use mathlib.Core.Path.{_≡_, refl, sym, ap, _∙_}
-use mathlib.Core.Bool.{Bool, true, false, _&&_, cond, true≢false, and-eq-true-iff}
-use mathlib.Core.List.{List, [], _∷_}
+use mathlib.Core.Bool.{Bool, true, false, _&&_, true≢false, and-eq-true-iff}
+use mathlib.Core.List.{[], _∷_}
 use mathlib.Core.Logic.{_≢_}
 use Prim.Native.Nat.{ℕ, suc, _+_, _≤_, _<_}
 use native.Mathlib.Numerals.{add-one}
@@ -56,8 +56,8 @@ marked-letter b e = go (isLetter b) refl
 -- No number that is no byte is a letter.
 no-byte : (b : ℕ) → 256 ≤ b → isLetter b ≡ false
 no-byte b h =
-    rw (le-leb 65 b (omega arith), lt-leb b 90 (omega arith), le-leb 97 b (omega arith), lt-leb b 122 (omega arith), le-leb 48 b (omega arith), lt-leb b 57 (omega arith))
-    (rw (ne-eqb b 46 (λ e. omega arith), ne-eqb b 45 (λ e. omega arith), ne-eqb b 95 (λ e. omega arith)))
+    rw (le-leb 65 b (omega arith), lt-leb b 90 (omega arith), le-leb 97 b (omega arith), lt-leb b 122 (omega arith), le-leb 48 b (omega arith))
+    (rw (lt-leb b 57 (omega arith), ne-eqb b 46 (λ e. omega arith), ne-eqb b 45 (λ e. omega arith), ne-eqb b 95 (λ e. omega arith)))
 
 pub letter-small : (b : ℕ) → isLetter b ≡ true → b < 256
 letter-small b h = elim (decLt b 256) [ yes l ↦ l | no nl ↦ absurd (true≢false (sym h ∙ no-byte b (omega arith))) ]
@@ -98,7 +98,8 @@ equal-cons : (a b : ℕ) (n m : Bytes) → equal (a ∷ n) (b ∷ m) ≡ eqb a b
 unfolding equal
 equal-cons a b n m = refl
 
-pub equal-next : (n m : Bytes) (i : ℕ) → i < length n → i < length m → equal (drop i n) (drop i m) ≡ eqb (getD n i 0) (getD m i 0) && equal (drop (i + 1) n) (drop (i + 1) m)
+pub equal-next : (n m : Bytes) (i : ℕ) → i < length n → i < length m
+    → equal (drop i n) (drop i m) ≡ eqb (getD n i 0) (getD m i 0) && equal (drop (i + 1) n) (drop (i + 1) m)
 equal-next n m i h k = rw (drop-cons n i 0 h, drop-cons m i 0 k, add-one i) (equal-cons (getD n i 0) (getD m i 0) (drop (suc i) n) (drop (suc i) m))
 
 pub equal-end : (n m : Bytes) (i : ℕ) → length n ≤ i → length m ≤ i → equal (drop i n) (drop i m) ≡ true

@@ -1,6 +1,6 @@
 -- A file that the check takes is the file of the names in it (`taken-is-file`), and those are legal (`taken-legal`), as many as the check says (`taken-count`):
 -- so two files that are taken with the same names are the same bytes (`same-names-same-file`). Each name stands in its record (`taken-name`).
-use mathlib.Core.Path.{_≡_, refl, sym, ap, _∙_, subst}
+use mathlib.Core.Path.{_≡_, refl, sym, ap, _∙_}
 use mathlib.Core.Bool.{Bool, true, false, cond}
 use mathlib.Core.List.{List, [], _∷_, _++_, append-assoc, append-nil, List·Memᴰ, List·Memᴰ·head, List·Memᴰ·tail, List·Memᴰ·not-nil}
 use Prim.Native.Nat.{ℕ, zero, suc, _+_, _≤_, _<_}
@@ -12,14 +12,14 @@ use Rattle.grammar.specs.Limits.{Distinct, end}
 use Rattle.grammar.specs.Limits as limits
 use Rattle.record.specs.Bytes.{numberAt, File}
 use Rattle.record.specs.Records as records
-use Rattle.record.specs.Records.{finds, left, recordBytes}
+use Rattle.record.specs.Records.{finds, left}
 use Rattle.record.specs.declared.Cursor.{Cursor}
 use Rattle.record.specs.declared.Passed.{Passed}
 use Rattle.record.specs.declared.Passed.the-variants.{At, Refused}
 use Rattle.record.proofs.Steps.{record-bytes}
-use Rattle.record.proofs.Lengths.{sized}
 use Rattle.names.specs.declared.Listed.the-variants.{Taken}
-use Rattle.names.specs.Names.{LegalName, Legal, nameBytes, endBytes, listOf, nameAt, after, placeFrom}
+use Rattle.names.specs.Names.{LegalName, Legal, nameBytes, endBytes, listOf, nameAt}
+use Rattle.names.specs.inner.Places.{after, placeFrom}
 use Rattle.names.specs.Check.{Listing, names, refusal, namePassed, endPassed, ended, goesOn, listedIn, listed, namesOf, namesIn, counted, checked}
 use Rattle.names.proofs.Spelling.{spelt-name}
 use Rattle.names.proofs.Lists.{list-none, list-first}
@@ -50,7 +50,8 @@ module _ (file : List ℕ) where
   Rest ns before at = (ms : List Bytes) × (ns ≡ before ++ ms) × Reading file before at ms
 
   -- A name before them.
-  named : {ns before : List Bytes} (here c : Cursor) → At c ≡ namePassed file before here → Rest ns (before ++ nameAt file (here .at) ∷ []) (c .at) → Rest ns before (here .at)
+  named : {ns before : List Bytes} (here c : Cursor) → At c ≡ namePassed file before here → Rest ns (before ++ nameAt file (here .at) ∷ []) (c .at)
+      → Rest ns before (here .at)
   named {before = before} here c p (ms, e, r) =
       let it = passing file before here p in
       (nameAt file (here .at) ∷ ms, e ∙ append-assoc before (nameAt file (here .at) ∷ []) ms, name c it (rw (it .stands .moves) at r))
@@ -83,12 +84,13 @@ pub record There (file : List ℕ) (at : ℕ) (n : Bytes) : Type 0 where
 
 module _ {file : List ℕ} where
   -- They stand there.
-  record-stands : File file → {before : List Bytes} {at : ℕ} (next : Cursor) → Passing file before at next → drop at file ≡ nameBytes (nameAt file at) ++ drop (after file at) file
+  record-stands : File file → {before : List Bytes} {at : ℕ} (next : Cursor) → Passing file before at next
+      → drop at file ≡ nameBytes (nameAt file at) ++ drop (after file at) file
   unfolding nameAt
   record-stands f {at = at} next p =
       let l = numberAt 2 file at in
-      let n = take l (drop (at + 4) file) in
-      let split : drop (at + 4) file ≡ n ++ drop (after file at) file = sym (take-append-drop l (drop (at + 4) file)) ∙ ap (_++_ n) (drop-drop l (at + 4) file) in
+      let rest = drop (at + 4) file in
+      let split : rest ≡ take l rest ++ drop (after file at) file = sym (take-append-drop l rest) ∙ ap (_++_ (take l rest)) (drop-drop l (at + 4) file) in
       rw (length-name file at (omega (arith, p .stands))) (record-bytes _ _ f (p .stands) split)
 
   stands : File file → {before ms : List Bytes} {at : ℕ} → Reading file before at ms → drop at file ≡ listOf ms

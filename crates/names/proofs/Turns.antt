@@ -4,7 +4,6 @@ use mathlib.Core.Bool.{cond}
 use mathlib.Core.List.{List, [], _∷_, _++_}
 use Prim.Native.Nat.{ℕ, zero, suc, _≤_, _<_}
 use native.Mathlib.Omega.{arith}
-use lib.ListN.{length}
 use Rattle.grammar.specs.Columns.{Bytes}
 use Rattle.record.specs.Records as records
 use Rattle.record.specs.Records.{recordOf, refused, left, finds}
@@ -38,9 +37,12 @@ module _ (file : List ℕ) where
   listed-alike before here {go} {go′} h =
       let with-it = before ++ nameAt file (here .at) ∷ [] in
       ap (λ (l : Listing). cond (finds file (here .at) records.name) l (ended before (endPassed file here)))
-      (goes-alike (namePassed file before here) {f = go with-it} {g = go′ with-it} (λ c e. let p = passing file before here e in h with-it c (omega (arith, p .stands))))
+      (goes-alike (namePassed file before here) {f = go with-it} {g = go′ with-it} (λ c e.
+      let p = passing file before here e in
+      h with-it c (omega (arith, p .stands))))
 
-  enough : (t u : ℕ) (before : List Bytes) (here : Cursor) → left file (here .at) ≤ t → left file (here .at) ≤ u → listedIn t file before here ≡ listedIn u file before here
+  enough : (t u : ℕ) (before : List Bytes) (here : Cursor) → left file (here .at) ≤ t → left file (here .at) ≤ u
+      → listedIn t file before here ≡ listedIn u file before here
   unfolding listedIn
   enough zero zero before here h k = refl
   enough zero (suc u) before here h k = none-left before here (listedIn u file) h

@@ -1,7 +1,7 @@
 -- Records of names met one after the other: the first of some and the others (`names-one`, `place-one`), one more after them (`names-more`, `place-more`);
 -- a name as a part of the file (`name-part`).
-use mathlib.Core.Path.{_≡_, refl, ap, _∙_}
-use mathlib.Core.Bool.{false, _||_}
+use mathlib.Core.Path.{_≡_, refl, ap}
+use mathlib.Core.Bool.{true, false}
 use mathlib.Core.List.{List, [], _∷_, _++_}
 use Prim.Native.Nat.{ℕ, zero, suc, _+_, _-_, _*_, _≤_, _<_}
 use native.Mathlib.Nat.{suc-add}
@@ -11,7 +11,8 @@ use lib.ListN.{length, take, drop}
 use Rattle.grammar.specs.Columns.{Bytes}
 use Rattle.grammar.specs.Limits.{equal, isIn}
 use Rattle.record.specs.Bytes.{numberAt}
-use Rattle.names.specs.Names.{nameAt, after, namesFrom, placeFrom}
+use Rattle.names.specs.Names.{nameAt}
+use Rattle.names.specs.inner.Places.{after, namesFrom, placeFrom}
 
 module _ (file : List ℕ) where
   -- The name is what stands between the record's opening and its end.
@@ -25,9 +26,14 @@ module _ (file : List ℕ) where
   names-one (suc k) at h = rw (sub-one (suc k))
 
   -- Whether a name is among them: it is the first, or among the others.
-  pub in-one : (n : Bytes) (k at : ℕ) → 0 < k → isIn n (namesFrom file k at) ≡ equal n (nameAt file at) || isIn n (namesFrom file (k - 1) (after file at))
-  unfolding isIn
-  in-one n k at h = rw (names-one k at h)
+  module _ (n : Bytes) (k at : ℕ) (h : 0 < k) where
+    pub in-first : equal n (nameAt file at) ≡ true → isIn n (namesFrom file k at) ≡ true
+    unfolding isIn
+    in-first e = rw (names-one k at h, e)
+
+    pub in-others : equal n (nameAt file at) ≡ false → isIn n (namesFrom file k at) ≡ isIn n (namesFrom file (k - 1) (after file at))
+    unfolding isIn
+    in-others e = rw (names-one k at h, e)
 
   pub in-none : (n : Bytes) (k at : ℕ) → k ≤ 0 → isIn n (namesFrom file k at) ≡ false
   unfolding isIn namesFrom

@@ -1,6 +1,6 @@
 -- A list of names, and the file that holds it: "a name list (kind 33 per name, kind 34 to end)" (document 02, C-11).
 use mathlib.Core.List.{List, [], _∷_, _++_, List·Memᴰ}
-use Prim.Native.Nat.{ℕ, zero, suc, _+_, _≤_}
+use Prim.Native.Nat.{ℕ, _+_, _≤_}
 use lib.ListN.{length, take, drop}
 use Rattle.grammar.specs.Columns.{Bytes}
 use Rattle.grammar.specs.Text.{Name}
@@ -26,6 +26,7 @@ pub record Legal (ns : List Bytes) : Type 0 where
 abbrev pub nameRecord : Bytes → Record
 nameRecord n = record { kind = records.name; length = length n }
 
+-- It is the payload.
 abbrev pub nameBytes : Bytes → List ℕ
 nameBytes n = recordBytes (nameRecord n) n
 
@@ -47,22 +48,6 @@ unfoldable pub listLength : List Bytes → ℕ
 listLength [] = 4
 listLength (n ∷ ns) = 4 + length n + listLength ns
 
--- ---- the names in a file
-
--- The name in the record that starts at a place: the length says how much of what follows the kind.
+-- The name in the record that starts at a place: as much of what follows its kind as its length says.
 unfoldable pub nameAt : List ℕ → ℕ → Bytes
 nameAt file at = take (numberAt 2 file at) (drop (at + 4) file)
-
--- Where the record after it starts.
-abbrev pub after : List ℕ → ℕ → ℕ
-after file at = at + 4 + numberAt 2 file at
-
--- The names of k records, of which the first one starts at a place.
-unfoldable pub namesFrom : List ℕ → ℕ → ℕ → List Bytes
-namesFrom file zero at = []
-namesFrom file (suc k) at = nameAt file at ∷ namesFrom file k (after file at)
-
--- Where the record after k records starts.
-unfoldable pub placeFrom : List ℕ → ℕ → ℕ → ℕ
-placeFrom file zero at = at
-placeFrom file (suc k) at = placeFrom file k (after file at)

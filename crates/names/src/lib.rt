@@ -12,11 +12,11 @@ ghost use mathlib.Core.Path.{_≡_};
 ghost use Prim.Native.Nat.{_<_};
 ghost use lib.ListN.{length};
 ghost use Rattle.grammar.specs.Limits.{equal, isIn};
-ghost use Rattle.names.specs.Names.{nameAt, after, namesFrom, placeFrom};
+ghost use Rattle.names.specs.Names.{nameAt};
 ghost use Rattle.names.specs.Check as check;
 ghost use Rattle.names.specs.Check.{spelt, namesIn};
-ghost use Rattle.names.specs.Read.{Finds};
-ghost use Rattle.names.specs.inner.Places.{Whole, Stands};
+ghost use Rattle.names.specs.Read.{Locates};
+ghost use Rattle.names.specs.inner.Places.{after, namesFrom, placeFrom, Whole, Stands};
 
 // What the check of a name list answers: how many names, or the refusal.
 pub enum Listed {
@@ -54,7 +54,8 @@ fn is_spelt(name: &[u8]) -> bool
     true
 }
 
-fn same(one: &[u8], other: &[u8]) -> bool
+// Whether two names are the same: their lengths first.
+pub fn same(one: &[u8], other: &[u8]) -> bool
     ensures { λ r. ⌜ r ≡ equal (now (one .entry)) (now (other .entry)) ⌝ }
 {
     if one.len() != other.len() {
@@ -158,7 +159,7 @@ pub fn check(file: &[u8]) -> Listed
 // Name number `index` of a file that the check takes with more than `index` names.
 pub fn name_at(file: &[u8], index: usize) -> Found
     requires { ⌜ index < length (namesIn (now file)) ⌝ }
-    ensures { λ r. ⌜ Finds (now (file .entry)) index r ⌝ }
+    ensures { λ r. ⌜ Locates (now (file .entry)) index r ⌝ }
 {
     let mut at = 0;
     let mut left = index;

@@ -1,6 +1,6 @@
 -- Records as they are written: each is bytes where its content is (`record-file`), and how long it is (`length-record`).
 use mathlib.Core.Path.{_≡_}
-use mathlib.Core.List.{List, [], _∷_, _++_}
+use mathlib.Core.List.{List, [], _∷_, _++_, append-nil}
 use Prim.Native.Nat.{ℕ, zero, suc, _+_, _/_, _<_}
 use native.Mathlib.Omega.{arith}
 use lib.ListN.{length, getD, length-append}
@@ -23,15 +23,24 @@ pub join : (xs : List ℕ) {ys : List ℕ} → File xs → File ys → File (xs 
 join [] f g = g
 join (x ∷ xs) f g = one-more (f .byte 0) (join xs (record { byte = λ i. f .byte (suc i) }) g)
 
-pub number-file : (k v : ℕ) → File (bytesOf k v)
+pub number : (k v : ℕ) → File (bytesOf k v)
 unfolding bytesOf
-number-file zero v = no-bytes
-number-file (suc k) v = one-more (omega arith) (number-file k (v / 256))
+number zero v = no-bytes
+number (suc k) v = one-more (omega arith) (number k (v / 256))
 
 pub record-file : (it : Record) {content : List ℕ} → File content → File (recordBytes it content)
 unfolding recordBytes openingOf
-record-file it f = join _ (join _ (number-file 2 (it .length)) (number-file 2 (it .kind))) f
+record-file it f = join _ (join _ (number 2 (it .length)) (number 2 (it .kind))) f
+
+pub length-opening : (it : Record) → length (openingOf it) ≡ 4
+unfolding openingOf
+length-opening it = simp (length-append, length-bytes)
 
 pub length-record : (it : Record) (content : List ℕ) → length (recordBytes it content) ≡ 4 + length content
-unfolding recordBytes openingOf
-length-record it content = simp (length-append, length-bytes)
+unfolding recordBytes
+length-record it content = simp (length-append, length-opening)
+
+-- A record with no payload is its opening.
+pub opening-only : (it : Record) → recordBytes it [] ≡ openingOf it
+unfolding recordBytes
+opening-only it = append-nil (openingOf it)

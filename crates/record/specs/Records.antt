@@ -48,10 +48,11 @@ flips = 19
 abbrev pub answerEnd : ℕ
 answerEnd = 20
 
--- "kind 33 per name, kind 34 to end" (document 02, C-11).
+-- "A name list (kind 33 per name, kind 34 to end)" (document 02, C-11).
 abbrev pub name : ℕ
 name = 33
 
+-- "Kind 34 to end".
 abbrev pub namesEnd : ℕ
 namesEnd = 34
 

@@ -7,7 +7,8 @@ pub mod writer;
 use number::u16_at;
 ghost use mathlib.Core.Path.{_≡_};
 ghost use Prim.Native.Nat.{_<_};
-ghost use Rattle.record.specs.Records.{recordOf, multiplicityRecord, left, step, allowed, varied, varyingStep, finds, refusalOf, passedRefusal, nothingAfter};
+ghost use Rattle.record.specs.Records.{recordOf, multiplicityRecord, left, step, refusalOf, passedRefusal, nothingAfter};
+ghost use Rattle.record.specs.Records.{allowed, varied, varyingStep, finds};
 
 // Why and where an input is refused: document 01's number and place.
 pub struct Refusal {

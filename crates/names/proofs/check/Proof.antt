@@ -10,7 +10,7 @@ use Rattle.record.specs.Records as records
 use Rattle.record.specs.Records.{finds}
 use Rattle.record.specs.declared.Passed.the-variants.{At}
 use Rattle.names.specs.declared.Listed.{Listed}
-use Rattle.names.specs.Names.{namesFrom}
+use Rattle.names.specs.inner.Places.{namesFrom}
 use Rattle.names.specs.Check.{namePassed, checked, returned, Checks}
 use Rattle.names.proofs.Walking.{place-grows}
 use Rattle.names.proofs.Passing.{passing}
@@ -29,14 +29,17 @@ checks : (file : List ℕ) {r : Listed} → r ≡ checked file → Checks file r
 checks file e = record { answers = e; numbers = ap returned e }
 
 -- A name starts at the cursor.
-found : (c : tie.Then1 Inv-loop μ-loop) → let at = c .before .before in finds (at .before .before .before .args .file .now) (at .loop .cursor .at) records.name ≡ true
+found : (c : tie.Then1 Inv-loop μ-loop) →
+    let at = c .before .before in
+    finds (at .before .before .before .args .file .now) (at .loop .cursor .at) records.name ≡ true
 found c = sym (c .before .finds .ensures) ∙ c .if1 .taken
 
 returns : tie.Need-returns Inv-loop μ-loop
 returns c =
     let told = c .before .enum-told .given .1 in
     let passed = c .before .before .before in
-    checks _ (rw (c .refusal .ensures, told) (name-stops (passed .before .before .before .loop .inv) (found (passed .before)) (sym told ∙ passed .pass-name .ensures)))
+    let stops = name-stops (passed .before .before .before .loop .inv) (found (passed .before)) (sym told ∙ passed .pass-name .ensures) in
+    checks _ (rw (c .refusal .ensures, told) stops)
 
 -- The name there was passed.
 passed : (c : tie.After-known-told Inv-loop μ-loop) →
@@ -56,15 +59,18 @@ loop-less c = omega (arith, passing _ _ _ (passed c) .stands)
 loop-again : tie.Need-loop-again Inv-loop μ-loop
 loop-again c = let named = c .before .before .before .before in gone-on (named .before .before .loop .inv) (found named) (passed c)
 
--- Another record starts there.
-other : (c : tie.Else1 Inv-loop μ-loop) → let at = c .before .before in finds (at .before .before .before .args .file .now) (at .loop .cursor .at) records.name ≡ false
+-- None starts there.
+other : (c : tie.Else1 Inv-loop μ-loop) →
+    let at = c .before .before in
+    finds (at .before .before .before .args .file .now) (at .loop .cursor .at) records.name ≡ false
 other c = sym (c .before .finds .ensures) ∙ c .if1 .left
 
 returns-2 : tie.Need-returns-2 Inv-loop μ-loop
 returns-2 c =
     let told = c .before .enum-told3 .given .1 in
     let ended = c .before .before .before in
-    checks _ (rw (c .refusal2 .ensures, told) (end-stops (ended .before .before .before .loop .inv) (other (ended .before)) (sym told ∙ ended .pass-end .ensures)))
+    let stops = end-stops (ended .before .before .before .loop .inv) (other (ended .before)) (sym told ∙ ended .pass-end .ensures) in
+    checks _ (rw (c .refusal2 .ensures, told) stops)
 
 returns-3 : tie.Need-returns-3 Inv-loop μ-loop
 returns-3 c =

@@ -4,9 +4,9 @@ use mathlib.Core.Path.{_≡_, sym, _∙_}
 use native.Mathlib.Omega.{arith}
 use Prim.Native.Nat.{_-_}
 use Rattle.grammar.specs.Limits.{isIn}
-use Rattle.names.specs.Names.{nameAt, after, namesFrom, placeFrom}
-use Rattle.names.specs.inner.Places.{Whole}
-use Rattle.names.proofs.Walking.{in-one, in-none, place-one, place-grows}
+use Rattle.names.specs.Names.{nameAt}
+use Rattle.names.specs.inner.Places.{after, namesFrom, placeFrom, Whole}
+use Rattle.names.proofs.Walking.{in-first, in-others, in-none, place-one, place-grows}
 use Rattle.names.proofs.is_repeat.Statement.{statement}
 use Rattle.names.proofs.is_repeat.Tie as tie
 
@@ -28,17 +28,16 @@ returns : tie.Need-returns Inv-loop μ-loop
 returns c =
     let in-loop = c .before .before in
     let at = in-loop .before .loop in
-    let args = in-loop .before .before .before .args in
-    rw (at .inv .1, in-one (args .file .now) (nameAt (args .file .now) (args .place)) (at .left) (at .at) (in-loop .loop-test .taken), sym (c .before .same-name .ensures) ∙ c .if1 .taken)
+    sym (at .inv .1 ∙ in-first _ _ (at .left) (at .at) (in-loop .loop-test .taken) (sym (c .before .same-name .ensures) ∙ c .if1 .taken))
 
 loop-again : tie.Need-loop-again Inv-loop μ-loop
 loop-again c =
     let in-loop = c .before .before .before in
     let at = in-loop .before .loop in
-    let args = in-loop .before .before .before .args in
-    let file = args .file .now in (
-      rw (c .after .ensures) (at .inv .0 ∙ place-one file (at .left) (at .at) (in-loop .loop-test .taken)),
-      rw (at .inv .1, c .after .ensures, in-one file (nameAt file (args .place)) (at .left) (at .at) (in-loop .loop-test .taken), sym (c .before .before .same-name .ensures) ∙ c .before .if1 .left),
+    let more = in-loop .loop-test .taken in
+    let differ = sym (c .before .before .same-name .ensures) ∙ c .before .if1 .left in (
+      rw (c .after .ensures) (at .inv .0 ∙ place-one _ (at .left) (at .at) more),
+      rw (c .after .ensures) (at .inv .1 ∙ in-others _ _ (at .left) (at .at) more differ),
     )
 
 returns-2 : tie.Need-returns-2 Inv-loop μ-loop

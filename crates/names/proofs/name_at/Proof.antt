@@ -5,9 +5,9 @@ use mathlib.Core.List.{[]}
 use native.Mathlib.Omega.{arith}
 use Prim.Native.Nat.{_-_}
 use lib.ListN.{getD}
-use Rattle.names.specs.Names.{nameAt, after, placeFrom}
+use Rattle.names.specs.Names.{nameAt}
 use Rattle.names.specs.Check.{namesIn}
-use Rattle.names.specs.inner.Places.{Whole}
+use Rattle.names.specs.inner.Places.{after, placeFrom, Whole}
 use Rattle.names.proofs.Walking.{place-one, place-grows, place-none}
 use Rattle.names.proofs.Taken.{There, taken-name, named-taken}
 use Rattle.names.proofs.name_at.Statement.{statement}
@@ -33,7 +33,8 @@ record-left : (c : tie.In-loop Inv-loop μ-loop) → Whole (c .before .before .b
 record-left c =
     let file = c .before .before .before .args .file .now in
     let at = c .before .loop in
-    omega (arith, named (c .before .before), at .inv, place-one file (at .left) (at .at) (c .loop-test .taken), place-grows file (at .left - 1) (after file (at .at)))
+    let there = named (c .before .before) in
+    omega (arith, at .inv, place-one file (at .left) (at .at) (c .loop-test .taken), place-grows file (at .left - 1) (after file (at .at)))
 
 loop-again : tie.Need-loop-again Inv-loop μ-loop
 loop-again c =

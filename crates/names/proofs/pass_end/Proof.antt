@@ -8,7 +8,9 @@ use Rattle.names.proofs.pass_end.Statement.{statement}
 use Rattle.names.proofs.pass_end.Tie as tie
 
 -- What the step found is the end record's step.
-found : (c : tie.After-read) → let args = c .before .before .before .args in c .read .result ≡ step (args .file .now) (args .here .at) (recordOf records.namesEnd)
+found : (c : tie.After-read) →
+    let args = c .before .before .before .args in
+    c .read .result ≡ step (args .file .now) (args .here .at) (recordOf records.namesEnd)
 found c = rw (← c .before .of .ensures) (c .read .ensures)
 
 returns : tie.Need-returns

@@ -19,18 +19,22 @@ use Rattle.names.proofs.pass_name.Statement.{statement}
 use Rattle.names.proofs.pass_name.Tie as tie
 
 -- What the step found is a name's step.
-found : (c : tie.After-read-varying) → let args = c .before .before .before .args in c .read-varying .result ≡ varyingStep (args .file .now) (args .here .at) anyName
+found : (c : tie.After-read-varying) →
+    let args = c .before .before .before .args in
+    c .read-varying .result ≡ varyingStep (args .file .now) (args .here .at) anyName
 found c = rw (← c .before .any-name .ensures) (c .read-varying .ensures)
 
 -- The step that was taken.
 step-is : (c : tie.After-known-told) →
     let args = c .before .before .before .before .before .before .args in
-    step.Payload (c .before .step .given .0 .0) (c .before .step .given .0 .1 .0) ≡ varyingStep (args .file .now) (args .here .at) anyName
+    let read = c .before .step .given .0 in
+    step.Payload (read .0) (read .1 .0) ≡ varyingStep (args .file .now) (args .here .at) anyName
 step-is c = sym (c .before .step .given .1) ∙ found (c .before .before .before)
 
 taken : (c : tie.After-known-told) →
     let args = c .before .before .before .before .before .before .args in
-    Held (args .file .now) (args .here .at) (sized records.name (numberAt 2 (args .file .now) (args .here .at))) (c .before .step .given .0 .0) (c .before .step .given .0 .1 .0)
+    let read = c .before .step .given .0 in
+    Held (args .file .now) (args .here .at) (sized records.name (numberAt 2 (args .file .now) (args .here .at))) (read .0) (read .1 .0)
 taken c = varying-held anyName (step-is c) .1
 
 returns : tie.Need-returns
@@ -70,10 +74,14 @@ is-repeat-requires : tie.Need-is-repeat-requires
 is-repeat-requires c κs = let t = taken (c .before .before .before) in record { follows = search needs; whole = omega arith }
 
 returns-3 : tie.Need-returns-3
-returns-3 c = let e = c .before .before in repeated _ _ _ _ (spelt-there e) (sym (c .before .is-repeat .ensures) ∙ c .if2 .taken) ∙ name-read _ _ _ _ (step-is (e .before .before .before))
+returns-3 c =
+    let e = c .before .before in
+    repeated _ _ _ _ (spelt-there e) (sym (c .before .is-repeat .ensures) ∙ c .if2 .taken) ∙ name-read _ _ _ _ (step-is (e .before .before .before))
 
 returns-4 : tie.Need-returns-4
-returns-4 c = let e = c .before .before in name-taken _ _ _ _ (spelt-there e) (sym (c .before .is-repeat .ensures) ∙ c .if2 .left) ∙ name-read _ _ _ _ (step-is (e .before .before .before))
+returns-4 c =
+    let e = c .before .before in
+    name-taken _ _ _ _ (spelt-there e) (sym (c .before .is-repeat .ensures) ∙ c .if2 .left) ∙ name-read _ _ _ _ (step-is (e .before .before .before))
 
 pub pass-name-spec : {M : Type 1} → statement M
 pass-name-spec =

@@ -8,7 +8,8 @@ returns : tie.Need-returns
 returns c =
     let ends = c .before .before .before in
     let args = ends .before .before .before .args in
-    rw (name-part (args .file .now) (args .one) _ (ends .before .after .ensures), name-part (args .file .now) (args .other) _ (ends .after2 .ensures)) at (c .same .ensures)
+    let file = args .file .now in
+    rw (name-part file (args .one) _ (ends .before .after .ensures), name-part file (args .other) _ (ends .after2 .ensures)) at (c .same .ensures)
 
 pub same-name-spec : {M : Type 1} → statement M
 same-name-spec =

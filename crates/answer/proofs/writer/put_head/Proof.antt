@@ -2,8 +2,9 @@
 use borrow.Author.Needs.{needs}
 use lib.ListN.{length-append}
 use Rattle.record.proofs.Numbers.{length-bytes}
+use Rattle.record.proofs.Files.{length-opening}
 use Rattle.record.proofs.Over.{next}
-use Rattle.answer.proofs.Pieces.{length-opening, head-flat}
+use Rattle.answer.proofs.Pieces.{head-flat}
 use native.Mathlib.Omega.{arith}
 use Rattle.answer.proofs.writer.put_head.Statement.{statement}
 use Rattle.answer.proofs.writer.put_head.Tie as tie

@@ -1,0 +1,70 @@
+-- `newick::reader::read_text` meets its contract. The invariant: the reader stands between tokens, past the blanks, and all that was read is in its lists.
+use borrow.Author.Needs.{needs}
+use native.Mathlib.Omega.{arith}
+use mathlib.Core.Path.{_≡_}
+use mathlib.Core.Bool.{false}
+use Prim.Native.Nat.{_-_, _≤_, _<_}
+use lib.ListN.{length, getD}
+use Rattle.grammar.specs.Bytes.{isBlank}
+use Rattle.newick.specs.inner.Book.{book, Holds}
+use Rattle.newick.proofs.Book.{begins}
+use Rattle.newick.proofs.reader.read_text.Statement.{statement}
+use Rattle.newick.proofs.reader.read_text.Tie as tie
+
+abbrev Inv-loop : tie.InvT-loop
+Inv-loop text starts₀ sizes₀ ones₀ zeros₀ index₀ before₀ filled₀ here₀ starts sizes ones zeros index before filled here =
+    Holds text (book starts sizes ones zeros index before filled) here × (here .at ≤ length text) × (here .at < length text → isBlank (getD text (here .at) 0) ≡ false)
+
+abbrev μ-loop : tie.MeasureT-loop
+μ-loop text starts₀ sizes₀ ones₀ zeros₀ index₀ before₀ filled₀ here₀ starts sizes ones zeros index before filled here = length text - here .at
+
+loop-holds : tie.Need-loop-holds Inv-loop μ-loop
+loop-holds c = let p = c .past-blanks .ensures in (p .3 _ (begins _ _ (c .before .before .pre)), p .0, p .2)
+
+take-token-requires : tie.Need-take-token-requires Inv-loop μ-loop
+take-token-requires c κs = let l = c .before .before .before .before .before .before .before .before .before .loop in (l .inv .0, search needs, l .inv .2 (search needs))
+
+enum-known-next : tie.Need-enum-known-next Inv-loop μ-loop
+enum-known-next c = search needs
+
+enum-told : tie.Need-enum-told Inv-loop μ-loop
+enum-told c = search needs
+
+returns : tie.Need-returns Inv-loop μ-loop
+returns c = rw (c .enum-told .given .1) (rw (c .enum-told .given .1) at (c .before .before .take-token .ensures))
+
+past-blanks-requires-2 : tie.Need-past-blanks-requires-2 Inv-loop μ-loop
+past-blanks-requires-2 c κs = let went = rw (c .before .next .given .1) at (c .before .before .before .take-token .ensures) in went .2
+
+loop-less : tie.Need-loop-less Inv-loop μ-loop
+loop-less c =
+    let went = rw (c .before .before .next .given .1) at (c .before .before .before .before .take-token .ensures) in
+    let p = c .past-blanks2 .ensures in
+    omega (arith, went .1, went .2, p .0, p .1)
+
+loop-again : tie.Need-loop-again Inv-loop μ-loop
+loop-again c =
+    let went = rw (c .before .before .next .given .1) at (c .before .before .before .before .take-token .ensures) in
+    let p = c .past-blanks2 .ensures in
+    (p .3 _ (went .0), p .0, p .2)
+
+returns-2 : tie.Need-returns-2 Inv-loop μ-loop
+returns-2 c = let l = c .before .before .before .loop in c .take-end .ensures _ _ (l .inv .0) (omega (arith, l .inv .1))
+
+pub read-text-spec : {M : Type 1} → statement M
+read-text-spec =
+    tie.close
+    (tie.spec
+    Inv-loop
+    μ-loop
+    (λ c κs. search needs)
+    loop-holds
+    take-token-requires
+    enum-known-next
+    enum-told
+    returns
+    past-blanks-requires-2
+    loop-less
+    loop-again
+    (λ c κs. search needs)
+    returns-2)

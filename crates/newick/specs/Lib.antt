@@ -1,0 +1,3 @@
+-- Reading source trees.
+pub mod Read
+pub mod inner

@@ -1,0 +1,129 @@
+// Source trees in: the operation "read source trees", a Newick text to a matrix file and a name list.
+// Promises: for any text and any lengths of the outputs, every number and every byte is that of specs/Read.antt.
+// Rests on taxa, record, matrix, grammar, ledger and names.
+mod list;
+mod reader;
+mod scan;
+mod tokens;
+
+use matrix::writer::put_matrix;
+use record::Refusal;
+ghost use mathlib.Core.Path.{_≡_};
+ghost use Rattle.record.specs.Records as records;
+ghost use Rattle.newick.specs.declared.Derived.the-variants as derived;
+ghost use Rattle.newick.specs.Read.{Reads};
+ghost use Rattle.newick.specs.inner.Book.{book, Roomy};
+ghost use Rattle.newick.specs.inner.Found.{Found};
+
+// Where the reader stands between two tokens, and what it has counted. Of the file: whether a tree is finished, how many taxa and columns. Of the tree:
+// its names, how many brackets have opened, and how many of these are open.
+pub struct Reading {
+    pub at: usize,
+    pub ended: bool,
+    pub finished: bool,
+    pub taxa: usize,
+    pub columns: usize,
+    pub here: u64,
+    pub opened: usize,
+    pub depth: usize,
+}
+
+// What a token comes to.
+pub enum Stepped {
+    On(Reading),
+    Refused(Refusal),
+}
+
+// What reading answers: the lengths of the matrix file and of the name list, or the refusal.
+pub enum Derived {
+    Taken(usize, usize),
+    Refused(Refusal),
+}
+
+fn no_room() -> Derived
+    ensures { λ r. ⌜ r ≡ derived.Refused (records.refused 10 0) ⌝ }
+{
+    Derived::Refused(Refusal {
+        number: 10,
+        place: 0,
+    })
+}
+
+// What was found, written where both outputs have room.
+fn write_found(
+    text: &[u8],
+    starts: &[usize; 64],
+    sizes: &[usize; 64],
+    ones: &[u64; 256],
+    zeros: &[u64; 256],
+    taxa: usize,
+    columns: usize,
+    matrix: &mut [u8],
+    names: &mut [u8],
+) -> Derived
+    requires { ⌜ Found (now text) (now starts) (now sizes) (now ones) (now zeros) taxa columns ⌝ }
+    ensures { λ r. ⌜ Reads (now (text .entry)) (now (matrix .entry)) (now (names .entry)) r (now (matrix .exit)) (now (names .exit)) ⌝ }
+{
+    let file = 12 + 22 * columns;
+    let list = list::list_length(sizes, taxa);
+    if matrix.len() < file {
+        return no_room();
+    }
+    if names.len() < list {
+        return no_room();
+    }
+    put_matrix(matrix, taxa as u16, ones, zeros, columns);
+    list::put_list(names, text, starts, sizes, taxa);
+    Derived::Taken(file, list)
+}
+
+// The operation, with the lists that the reader keeps.
+fn read_with(
+    text: &[u8],
+    matrix: &mut [u8],
+    names: &mut [u8],
+    starts: &mut [usize; 64],
+    sizes: &mut [usize; 64],
+    ones: &mut [u64; 256],
+    zeros: &mut [u64; 256],
+    index: &mut [usize; 64],
+    before: &mut [u64; 64],
+    filled: &mut [bool; 64],
+) -> Derived
+    requires { ⌜ Roomy (book (now starts) (now sizes) (now ones) (now zeros) (now index) (now before) (now filled)) ⌝ }
+    ensures { λ r. ⌜ Reads (now (text .entry)) (now (matrix .entry)) (now (names .entry)) r (now (matrix .exit)) (now (names .exit)) ⌝ }
+{
+    let last = reader::read_text(text, starts, sizes, ones, zeros, index, before, filled);
+    match last {
+        Stepped::On(end) => write_found(
+            text,
+            starts,
+            sizes,
+            ones,
+            zeros,
+            end.taxa,
+            end.columns,
+            matrix,
+            names,
+        ),
+        Stepped::Refused(why) => Derived::Refused(why),
+    }
+}
+
+// The operation "read source trees".
+pub fn read(text: &[u8], matrix: &mut [u8], names: &mut [u8]) -> Derived
+    ensures { λ r. ⌜ Reads (now (text .entry)) (now (matrix .entry)) (now (names .entry)) r (now (matrix .exit)) (now (names .exit)) ⌝ }
+{
+    read_with(
+        text,
+        matrix,
+        names,
+        &mut [0usize; 64],
+        &mut [0usize; 64],
+        &mut [0u64; 256],
+        &mut [0u64; 256],
+        &mut [0usize; 64],
+        &mut [0u64; 64],
+        &mut [false; 64],
+    )
+}
