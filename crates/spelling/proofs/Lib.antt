@@ -5,3 +5,4 @@ pub mod Lengths
 pub mod Accepted
 pub mod Whole
 pub mod Writing
+pub mod Promises

@@ -6,7 +6,6 @@ use Prim.Native.Nat.{ℕ, _+_, _*_, _≤_, _<_}
 use native.Mathlib.Omega.{arith}
 use lib.ListN.{length}
 use borrow.Author.Tests.{eq-eqb, ne-eqb, lt-ltb, le-ltb}
-use Rattle.taxa.specs.Sets.{all}
 use Rattle.taxa.proofs.Members.{all-fits}
 use Rattle.record.specs.Bytes.{File, over}
 use Rattle.record.specs.Records.{refused}
@@ -24,8 +23,8 @@ use Rattle.names.specs.Check.{checked}
 use Rattle.names.proofs.Taken.{taken-count}
 use Rattle.spelling.specs.declared.Spelled.{Spelled}
 use Rattle.spelling.specs.declared.Spelled.the-variants.{Length, Refused}
-use Rattle.spelling.specs.Write.{nameIn, textOf, afterBoth, spelled, outputAfter, returned, Readable, Spells}
-use Rattle.spelling.specs.inner.Spell.{textFor, groupsOf, Tellable, Put}
+use Rattle.spelling.specs.Write.{nameIn, textOf, afterBoth, spelled, outputAfter, returned, Spells}
+use Rattle.spelling.specs.inner.Spell.{textFor, groupsOf, Readable, Tellable}
 use Rattle.spelling.proofs.Accepted.{lawful-groups, lawful-root, names-for}
 use Rattle.spelling.proofs.Lengths.{text-short}
 

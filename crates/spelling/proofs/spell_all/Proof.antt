@@ -1,6 +1,6 @@
 -- `spelling::spell_all` meets its contract: the text of all taxa, and the semicolon right after it.
 use borrow.Author.Needs.{needs}
-use mathlib.Core.Path.{_≡_, sym}
+use mathlib.Core.Path.{sym}
 use native.Mathlib.Omega.{arith}
 use Prim.Native.Nat.{_<_}
 use lib.ListN.{length}

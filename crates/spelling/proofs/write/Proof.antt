@@ -4,7 +4,7 @@ use mathlib.Core.Path.{_≡_, sym, ap, _∙_}
 use Rattle.record.specs.Records.{passedRefusal}
 use Rattle.record.specs.declared.Passed.the-variants.{At, Refused}
 use Rattle.answer.specs.Reading.{fileTests}
-use Rattle.spelling.specs.Write.{Readable}
+use Rattle.spelling.specs.inner.Spell.{Readable}
 use Rattle.spelling.proofs.Writing.{answer-refused, list-refused, both-read}
 use Rattle.spelling.proofs.write.Statement.{statement}
 use Rattle.spelling.proofs.write.Tie as tie

@@ -2,10 +2,10 @@
 use borrow.Author.Needs.{needs}
 use mathlib.Core.Path.{_≡_, sym, ap, _∙_}
 use mathlib.Core.List.{List}
-use Prim.Native.Nat.{ℕ, _≤_}
+use Prim.Native.Nat.{ℕ}
 use native.Mathlib.Omega.{arith}
 use lib.ListN.{length, take, replicate, length-take, length-replicate}
-use Rattle.record.specs.Bytes.{File, over}
+use Rattle.record.specs.Bytes.{File}
 use Rattle.answer.proofs.Outcomes.{laid}
 use Rattle.answer.proofs.Runs.{front-is}
 use Rattle.spelling.specs.inner.Spell.{textFor, groupsOf, Put}
