@@ -1,8 +1,10 @@
--- What every operation answers fits the bits that it is packed into, for any file.
+-- What every operation answers fits the bits that it is packed into, for any file. So do places in texts and name lists below 2 to the 55 bytes (`names-near`, `trees-near`,
+-- `text-near`).
 use mathlib.Core.Path.{_≡_, refl}
 use mathlib.Core.List.{List}
-use Prim.Native.Nat.{ℕ}
+use Prim.Native.Nat.{ℕ, _^_, _≤_, _<_}
 use native.Mathlib.Omega.{arith}
+use lib.ListN.{length}
 use Rattle.record.specs.Bytes.{File}
 use Rattle.matrix.specs.declared.Checked.{Checked}
 use Rattle.matrix.specs.declared.Checked.the-variants as checks
@@ -29,7 +31,16 @@ use Rattle.score.specs.declared.Scored.{Scored}
 use Rattle.score.specs.declared.Scored.the-variants as scores
 use Rattle.score.specs.Operation.{scored}
 use Rattle.score.proofs.Places.{Small, score-small}
-use Rattle.flipcut.specs.inner.Fitting.{CheckFits, BuildFits, SplitFits, ReadFits, WriteFits, ScoreFits}
+use Rattle.names.specs.declared.Listed.{Listed}
+use Rattle.names.specs.declared.Listed.the-variants as lists
+use Rattle.names.specs.Check as names
+use Rattle.names.proofs.Places.{refusal-there, taken-few}
+use Rattle.grammar.proofs.Faults.{refused-known}
+use Rattle.newick.specs.declared.Derived.{Derived}
+use Rattle.newick.specs.Read as newick
+use Rattle.newick.proofs.Taken.{Comes, taken, short, faulty, comes}
+use Rattle.newick.proofs.Promises.{room-needed}
+use Rattle.flipcut.specs.inner.Fitting.{CheckFits, BuildFits, SplitFits, ReadFits, WriteFits, ScoreFits, NamesFit, TreesFit, TextFits}
 
 pub check-fits : {file : List ℕ} → File file → CheckFits (checked file)
 check-fits {file} f = go (checked file) refl
@@ -72,3 +83,37 @@ score-fits {matrix} f answer = go (scored matrix answer) (score-small f answer)
     go : (a : Scored) → Small a → ScoreFits a
     go (scores.Taken up down) small = small
     go (scores.Refused why) (near, few) = (omega arith, omega arith)
+
+-- ---- name lists
+
+pub names-fit : {file : List ℕ} → File file → length file < 2 ^ 63 → NamesFit (names.checked file)
+names-fit {file} f long = go (names.checked file) refl
+  where
+    go : (a : Listed) → a ≡ names.checked file → NamesFit a
+    go (lists.Taken count) e = let few = taken-few f e in omega arith
+    go (lists.Refused why) e = let (near, some, few) = refusal-there file e in (omega arith, omega arith)
+
+pub names-near : (file : List ℕ) → length file < 2 ^ 55 → names.checkNumbers file .place < 2 ^ 55
+names-near file small = go (names.checked file) refl
+  where
+    go : (a : Listed) → a ≡ names.checked file → names.returned a .place < 2 ^ 55
+    go (lists.Taken count) e = omega arith
+    go (lists.Refused why) e = let (near, some, few) = refusal-there file e in omega arith
+
+-- ---- Newick text
+module _ (text : List ℕ) (room space : ℕ) where
+  pub trees-fit : TreesFit (newick.read text room space)
+  trees-fit = go (comes text room space)
+    where
+      go : {r : Derived} → Comes text room space r → TreesFit r
+      go (taken ts s a b) = let (sum, matrix, rest, list) = room-needed s in (omega arith, omega arith)
+      go (short ts s a) = (omega arith, omega arith)
+      go (faulty number place f) = let (least, most, inside) = refused-known text f in (omega arith, omega arith)
+
+  pub trees-near : length text < 2 ^ 55 → newick.readNumbers text room space .place < 2 ^ 55
+  trees-near small = go (comes text room space)
+    where
+      go : {r : Derived} → Comes text room space r → newick.returned r .place < 2 ^ 55
+      go (taken ts s a b) = omega arith
+      go (short ts s a) = omega arith
+      go (faulty number place f) = let (least, most, inside) = refused-known text f in omega arith
