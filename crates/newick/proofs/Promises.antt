@@ -33,14 +33,14 @@ use Rattle.names.specs.Check as list
 use Rattle.names.specs.declared.Listed.the-variants as lists
 use Rattle.names.proofs.Encoding as encoding
 use Rattle.names.proofs.Lists.{length-list}
-use Rattle.newick.specs.declared.Read.{Read}
-use Rattle.newick.specs.declared.Read.the-variants.{Taken, Refused}
+use Rattle.newick.specs.declared.Derived.{Derived}
+use Rattle.newick.specs.declared.Derived.the-variants.{Taken, Refused}
 use Rattle.newick.specs.Read.{matrixFile, nameList, read, outputAfter, returned, readNumbers, Reads}
 use Rattle.newick.specs.Held.{SourceTrees, matrixOfTrees, matrixRoom, namesRoom, Fit, Short, Leaves, Encodes}
 use Rattle.newick.proofs.Taken.{Comes, taken, short, faulty, trees-accepted, read-taken, read-short, comes}
 use Rattle.newick.proofs.Taken.{matrix-legal, length-columns, names-legal, columnOf, encoded}
 
-abbrev numberOf : Read → ℕ
+abbrev numberOf : Derived → ℕ
 numberOf r = returned r .number
 
 -- ---- which texts are taken
@@ -50,7 +50,7 @@ module _ (text : List ℕ) (room space : ℕ) where
   pub accepted-exactly : ((ts : Trees) × SourceTrees text ts × Fit ts room space) ↔ (readNumbers text room space .number ≡ 0)
   accepted-exactly = (λ (ts, s, f). rw (read-taken s room space f), λ e. back (comes text room space) e)
     where
-      back : {r : Read} → Comes text room space r → numberOf r ≡ 0 → (ts : Trees) × SourceTrees text ts × Fit ts room space
+      back : {r : Derived} → Comes text room space r → numberOf r ≡ 0 → (ts : Trees) × SourceTrees text ts × Fit ts room space
       back (taken ts s f) e = (ts, s, f)
       back (short ts s a) e = absurd (omega arith)
       back (faulty number place f) e = absurd (omega (arith, refused-known text f .0))
@@ -59,7 +59,7 @@ module _ (text : List ℕ) (room space : ℕ) where
   pub ten-exactly : ((ts : Trees) × SourceTrees text ts × Short ts room space) ↔ (readNumbers text room space .number ≡ 10)
   ten-exactly = (λ (ts, s, a). rw (read-short s room space a), λ e. back (comes text room space) e)
     where
-      back : {r : Read} → Comes text room space r → numberOf r ≡ 10 → (ts : Trees) × SourceTrees text ts × Short ts room space
+      back : {r : Derived} → Comes text room space r → numberOf r ≡ 10 → (ts : Trees) × SourceTrees text ts × Short ts room space
       back (taken ts s f) e = absurd (omega arith)
       back (short ts s a) e = (ts, s, a)
       back (faulty number place f) e = absurd (omega (arith, refused-known text f .0))
@@ -67,10 +67,10 @@ module _ (text : List ℕ) (room space : ℕ) where
   refused : {number place : ℕ} → Refused (records.refused number place) ≡ read text room space → number ≢ 10 → outcome text ≡ verdict.refused number place
   refused {number} {place} e other = back (comes text room space) e
     where
-      back : {r : Read} → Comes text room space r → Refused (records.refused number place) ≡ r → outcome text ≡ verdict.refused number place
+      back : {r : Derived} → Comes text room space r → Refused (records.refused number place) ≡ r → outcome text ≡ verdict.refused number place
       back (taken ts s f) e = let z : _≡_ {A = ℕ} 0 1 = cc in absurd (omega arith)
       back (short ts s a) e = absurd (other (ap numberOf e))
-      back (faulty r p f) e = rw (ap numberOf e, ap (λ (r : Read). returned r .place) e) f
+      back (faulty r p f) e = rw (ap numberOf e, ap (λ (r : Derived). returned r .place) e) f
 
   -- Any other refusal is the first of all that is wrong with the text: one of 16 to 20, in the text or at its end.
   pub refused-first : {number place : ℕ} → Refused (records.refused number place) ≡ read text room space → number ≢ 10
@@ -97,7 +97,7 @@ module _ {text matrix names : List ℕ} (l : Leaves text matrix names) where
     took : l .r ≡ Taken (matrixRoom ts) (namesRoom ts)
     took = go (comes text (length (l .matrix-output)) (length (l .names-output))) (l .reads .answers)
       where
-        go : {r : Read} → Comes text (length (l .matrix-output)) (length (l .names-output)) r → l .r ≡ r → l .r ≡ Taken (matrixRoom ts) (namesRoom ts)
+        go : {r : Derived} → Comes text (length (l .matrix-output)) (length (l .names-output)) r → l .r ≡ r → l .r ≡ Taken (matrixRoom ts) (namesRoom ts)
         go (taken us t f) e = e ∙ ap (λ (us : Trees). Taken (matrixRoom us) (namesRoom us)) (unique (t .spelt) (s .spelt))
         go (short us t a) e = absurd (omega (arith, ap numberOf e, l .success))
         go (faulty number place f) e = absurd (omega (arith, ap numberOf e, l .success, refused-known text f .0))
@@ -155,13 +155,13 @@ room-needed {ts = ts} s =
 -- ---- one text, one answer
 
 -- Two readings that the contract allows, with the same outputs lent, coincide.
-pub one-reading : {text matrix names : List ℕ} {r r′ : Read} {matrix′ names′ matrix″ names″ : List ℕ} → Reads text matrix names r matrix′ names′
+pub one-reading : {text matrix names : List ℕ} {r r′ : Derived} {matrix′ names′ matrix″ names″ : List ℕ} → Reads text matrix names r matrix′ names′
     → Reads text matrix names r′ matrix″ names″ → (r ≡ r′) × (matrix′ ≡ matrix″) × (names′ ≡ names″)
 one-reading {text} {matrix} {names} x y =
     let same = x .answers ∙ sym (y .answers) in (
       same,
-      x .matrix-output ∙ ap (λ (r : Read). outputAfter (matrixFile (outcome text)) r matrix) same ∙ sym (y .matrix-output),
-      x .names-output ∙ ap (λ (r : Read). outputAfter (nameList (outcome text)) r names) same ∙ sym (y .names-output),
+      x .matrix-output ∙ ap (λ (r : Derived). outputAfter (matrixFile (outcome text)) r matrix) same ∙ sym (y .matrix-output),
+      x .names-output ∙ ap (λ (r : Derived). outputAfter (nameList (outcome text)) r names) same ∙ sym (y .names-output),
     )
 
 -- Whatever the outputs are, reading leaves the same bytes of a text.
@@ -175,17 +175,17 @@ one-text l k =
 -- ---- the numbers that are returned (document 01)
 
 -- "success returns 0", and only success does.
-pub reading-trees-succeeds : {text matrix names : List ℕ} {r : Read} {matrix′ names′ : List ℕ} → Reads text matrix names r matrix′ names′
+pub reading-trees-succeeds : {text matrix names : List ℕ} {r : Derived} {matrix′ names′ : List ℕ} → Reads text matrix names r matrix′ names′
     → (returned r .number ≡ 0) ↔ ((a : ℕ) × (b : ℕ) × (r ≡ Taken a b))
 reading-trees-succeeds {text} {matrix} {names} {r} x = (λ e. go (comes text (length matrix) (length names)) (x .answers) e, λ (a, b, e). ap numberOf e)
   where
-    go : {q : Read} → Comes text (length matrix) (length names) q → r ≡ q → numberOf r ≡ 0 → (a : ℕ) × (b : ℕ) × (r ≡ Taken a b)
+    go : {q : Derived} → Comes text (length matrix) (length names) q → r ≡ q → numberOf r ≡ 0 → (a : ℕ) × (b : ℕ) × (r ≡ Taken a b)
     go (taken ts s f) e z = (matrixRoom ts, namesRoom ts, e)
     go (short ts s a) e z = absurd (omega (arith, ap numberOf e))
     go (faulty number place f) e z = absurd (omega (arith, ap numberOf e, refused-known text f .0))
 
 -- "A refusal returns its number and place, 0 for every other number, and changes no lent memory."
-pub refused-reading-trees : {text matrix names : List ℕ} {r : Read} {matrix′ names′ : List ℕ} → Reads text matrix names r matrix′ names′
+pub refused-reading-trees : {text matrix names : List ℕ} {r : Derived} {matrix′ names′ : List ℕ} → Reads text matrix names r matrix′ names′
     → returned r .number ≢ 0 → (returned r .matrix ≡ 0) × (returned r .names ≡ 0) × (matrix′ ≡ matrix) × (names′ ≡ names)
 unfolding outputAfter
 refused-reading-trees {r = Taken a b} x some = absurd (some refl)

@@ -27,14 +27,14 @@ use Rattle.matrix.specs.Matrix as matrix
 use Rattle.matrix.specs.declared.Column as matrix-column
 use Rattle.matrix.specs.Matrix.{absent, LegalColumns, none, one}
 use Rattle.names.specs.Names as names
-use Rattle.newick.specs.declared.Read.{Read}
-use Rattle.newick.specs.declared.Read.the-variants.{Taken, Refused}
+use Rattle.newick.specs.declared.Derived.{Derived}
+use Rattle.newick.specs.declared.Derived.the-variants.{Taken, Refused}
 use Rattle.newick.specs.Read.{matrixFor, answered, read}
 use Rattle.newick.specs.Held.{SourceTrees, matrixOfTrees, matrixRoom, namesRoom, Fit, Short, Encodes}
 
 -- ---- what reading comes to
 
-pub data Comes (text : List ℕ) (room space : ℕ) : Read → Type 0 where
+pub data Comes (text : List ℕ) (room space : ℕ) : Derived → Type 0 where
   taken : (ts : Trees) → SourceTrees text ts → Fit ts room space → Comes text room space (Taken (matrixRoom ts) (namesRoom ts))
   short : (ts : Trees) → SourceTrees text ts → Short ts room space → Comes text room space (Refused (records.refused 10 0))
   faulty : (number place : ℕ) → outcome text ≡ refused number place → Comes text room space (Refused (records.refused number place))

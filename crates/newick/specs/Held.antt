@@ -12,7 +12,7 @@ use Rattle.grammar.specs.Limits.{taxa, Within}
 use Rattle.matrix.specs.Matrix.{Matrix, fileOf}
 use Rattle.matrix.specs.declared.Column as matrix
 use Rattle.names.specs.Names.{listOf}
-use Rattle.newick.specs.declared.Read.{Read}
+use Rattle.newick.specs.declared.Derived.{Derived}
 use Rattle.newick.specs.Read.{matrixFor, returned, Reads}
 
 -- The source trees of a text: it spells them, and they are within the limits.
@@ -44,7 +44,7 @@ Short ts room space = (room < matrixRoom ts) ⊎ (space < namesRoom ts)
 pub record Leaves (text matrix names : List ℕ) : Type 0 where
   pub matrix-output : List ℕ
   pub names-output : List ℕ
-  pub r : Read
+  pub r : Derived
   pub matrix-output′ : List ℕ
   pub names-output′ : List ℕ
   pub reads : Reads text matrix-output names-output r matrix-output′ names-output′
