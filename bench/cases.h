@@ -1,16 +1,11 @@
-// What the programs of bench/ share: ten kinds of matrices of up to 64 taxa and 256 columns, and three of a tree of which more or less is known, fixed,
-// as lists and as a matrix file; processor time; and the stack that an operation uses, found by painting a stack of its own. C and C++; whoever includes
-// it defines _GNU_SOURCE before anything else.
+// Ten kinds of matrices of up to 64 taxa and 256 columns, and three of a tree of which more or less is known, fixed, as lists and as a matrix file.
+// C and C++.
 #ifndef CASES_H
 #define CASES_H
 
-#include <stddef.h>
-#include <stdint.h>
-#include <string.h>
-#include <time.h>
-#include <ucontext.h>
+#include "basics.h"
 
-enum { N = 64, M = 256, MOST_FILE_LENGTH = 12 + 22 * M + 4 + N, OUT_LENGTH = 20 + 16 * (N - 1) + 22 * M, STACK = 1 << 20 };
+enum { N = 64, M = 256, MOST_FILE_LENGTH = 12 + 22 * M + 4 + N, OUT_LENGTH = 20 + 16 * (N - 1) + 22 * M };
 enum { RANDOM, DENSE, SPARSE, INTERVAL, NESTED, NOISY, UNKNOWN, CLUSTERS, COMBS, PAIRS, KINDS, CASES = 2 * KINDS };
 enum { KNOWN_5 = KINDS, KNOWN_20, KNOWN_100, ALL_KINDS, ALL_CASES = 2 * ALL_KINDS };  // so many entries of a hundred are known
 static int taxa, columns;  // of the case made last
@@ -19,7 +14,6 @@ static size_t file_length;
 static uint16_t weights[M];
 static uint64_t ones0[M], zeros0[M];
 static int32_t ws[N * M];
-static uint64_t state;
 static unsigned leaf[N];  // where each taxon stands among the leaves of the tree: 8, 16 or 32 in a row are a clade
 
 // A case is a kind with light weights, all 1, then with heavy ones, 1 to 65535.
@@ -31,26 +25,6 @@ static inline const char *kind_name(int k) {
                                         "known5", "known20", "known100"};
     return names[kind_of(k)];
 }
-
-static inline double now(void) {
-    struct timespec t;
-    clock_gettime(CLOCK_PROCESS_CPUTIME_ID, &t);
-    return (double)t.tv_sec + 1e-9 * (double)t.tv_nsec;
-}
-
-static inline uint64_t rnd(void) {
-    state ^= state << 13;
-    state ^= state >> 7;
-    state ^= state << 17;
-    return state * 0x2545F4914F6CDD1Dull >> 11;
-}
-
-static inline uint8_t *number(uint8_t *at, uint64_t x, int bytes) {
-    for (int i = 0; i < bytes; i++) *at++ = (uint8_t)(x >> (8 * i));
-    return at;
-}
-
-static inline uint8_t *head(uint8_t *at, unsigned length, unsigned kind) { return number(number(at, length, 2), kind, 2); }
 
 // Whether taxon i has a 1 in column c; x is below 100, and a to b are drawn for each column.
 static inline int is_one(int kind, unsigned c, unsigned i, uint64_t x, unsigned a, unsigned b) {
@@ -124,22 +98,6 @@ static inline void add_multiplicities(void) {
     at = head(at, (unsigned)taxa, 5);
     for (int i = 0; i < taxa; i++) *at++ = (uint8_t)(1 + i % 3);
     file_length += 4 + (size_t)taxa;
-}
-
-// Runs an operation on a stack of its own, painted before; the lowest byte that changed says how deep it went.
-static inline size_t stack_used(void (*operation)(void)) {
-    static uint8_t stack[STACK];
-    static ucontext_t back, there;
-    memset(stack, 0xA5, STACK);
-    getcontext(&there);
-    there.uc_stack.ss_sp = stack;
-    there.uc_stack.ss_size = STACK;
-    there.uc_link = &back;
-    makecontext(&there, operation, 0);
-    swapcontext(&back, &there);
-    size_t i = 0;
-    while (i < STACK && stack[i] == 0xA5) i++;
-    return STACK - i;
 }
 
 #endif

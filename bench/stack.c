@@ -1,4 +1,5 @@
-// The most stack that the operations use over the matrices of cases.h, the heavy ones with multiplicities too, a split's group being all taxa.
+// The most stack that the operations use over the matrices of cases.h, the heavy ones with multiplicities too, a split's group being all taxa, and over
+// source trees as deep as may be, of as many names and as long ones as may be.
 // Build and split are measured in a library where both call the search's `divide`, and in one that has no other operation: there the compiler puts it into its only caller.
 // Ends with 1 where one uses more than document 02's C-16 allows a build and a split, or include/flipcut.h any other.
 //   stack FOLDER   also writes the matrices there, as files
@@ -14,7 +15,10 @@ enum {
     MOST_FOR_READ = 12288,
     MOST_FOR_WRITE = 12288,
     MOST_FOR_SCORE = 4096,
-    MOST_FOR_CHECK = 1024
+    MOST_FOR_CHECK = 1024,
+    MOST_FOR_READ_NEWICK = 12288,
+    MOST_FOR_WRITE_NEWICK = 12288,
+    MOST_FOR_CHECK_NAMES = 1024
 };
 
 // What the crates of bench/stack.sh export: the length written, and side A; 0 for a refusal.
@@ -27,6 +31,8 @@ static uint64_t numbers[FLIPCUT_READ_RESULTS];
 static struct flipcut_answer answer;
 static struct flipcut_flip flips[M];
 static uint64_t divided[FLIPCUT_SPLIT_RESULTS];
+static uint8_t matrix[FLIPCUT_MOST_SOURCE_MATRIX], names[FLIPCUT_MOST_NAMES], newick[FLIPCUT_MOST_NEWICK];
+static size_t names_length;
 static bool taken;  // whether the operation that ran last took what it was given
 
 static void build_of_one(void) {
@@ -53,7 +59,29 @@ static void write_again(void) {
 static void score(void) { taken = !flipcut_refused(flipcut_score(file, file_length, out, written)); }
 static void check(void) { taken = !flipcut_refused(flipcut_check(file, file_length)); }
 
-// In this order, since what is read, written and scored is the build's answer.
+// Trees of 63 brackets, each in the one before: 248 columns.
+enum { TREES = 4 };
+static char text[TREES * (FLIPCUT_MOST_NEWICK + 1)];
+static void make_text(void) {
+    char *at = text;
+    for (int tree = 0; tree < TREES; tree++) {
+        for (int i = 0; i < N; i++) at += sprintf(at, "%s%02d%030d", i == 0 ? "(" : i < N - 1 ? ",(" : ",", i, 0);
+        memset(at, ')', N - 1);
+        at[N - 1] = ';';
+        at += N;
+    }
+}
+static void read_trees(void) {
+    const uint64_t read = flipcut_read_newick((const uint8_t *)text, strlen(text), matrix, sizeof matrix, names, sizeof names);
+    names_length = flipcut_names_written(read);
+    taken = !flipcut_refused(read);
+}
+static void check_list(void) { taken = flipcut_names(flipcut_check_names(names, names_length)) == N; }
+static void write_tree(void) {
+    taken = flipcut_written(flipcut_write_newick(out, written, names, names_length, newick, sizeof newick)) > 0;
+}
+
+// In this order, since what is read, written and scored is the build's answer, and the names are those of the source trees.
 static struct {
     const char *name;
     void (*run)(void);
@@ -65,6 +93,9 @@ static struct {
     {"write", write_again, MOST_FOR_WRITE, 0},
     {"score", score, MOST_FOR_SCORE, 0},
     {"check", check, MOST_FOR_CHECK, 0},
+    {"read newick", read_trees, MOST_FOR_READ_NEWICK, 0},
+    {"check names", check_list, MOST_FOR_CHECK_NAMES, 0},
+    {"write newick", write_tree, MOST_FOR_WRITE_NEWICK, 0},
     {"split, one caller", split_of_one, MOST_FOR_SPLIT, 0},
     {"split, two callers", split_of_two, MOST_FOR_SPLIT, 0},
 };
@@ -92,6 +123,7 @@ static int measure(void) {
 
 int main(int count, char **words) {
     if (count != 2) return 2;
+    make_text();
     for (int k = 0; k < CASES; k++) {
         make_case(k, N, M);
         for (int merged = 0; merged <= is_heavy(k); merged++) {

@@ -30,6 +30,10 @@
 #define FLIPCUT_MOST_WORKSPACE (FLIPCUT_MOST_TAXA * FLIPCUT_MOST_COLUMNS) /* numbers */
 #define FLIPCUT_MOST_MATRIX 5712                                           /* bytes */
 #define FLIPCUT_MOST_ANSWER 6660                                           /* bytes */
+#define FLIPCUT_MOST_NAME 32                                               /* bytes */
+#define FLIPCUT_MOST_NAMES 2308                                            /* bytes: a list of 64 names */
+#define FLIPCUT_MOST_SOURCE_MATRIX 5644                                    /* bytes: the matrix of source trees */
+#define FLIPCUT_MOST_NEWICK 2238                                           /* bytes: the tree of an answer */
 
 /* The places of a split's result. */
 enum flipcut_split_result { FLIPCUT_COST, FLIPCUT_SIDE, FLIPCUT_TAXON, FLIPCUT_SPLIT_RESULTS };
@@ -102,6 +106,21 @@ uint64_t flipcut_write(const struct flipcut_answer *answer, const struct flipcut
  * clade of the tree or to nothing. For a tree that the build wrote it is at most the answer's total. */
 uint64_t flipcut_score(const uint8_t *matrix, size_t matrix_len, const uint8_t *answer, size_t answer_len);
 
+/* Reads source trees, which are Newick text: writes their matrix file to the start of `matrix` and the names of its taxa,
+ * as a name list, to the start of `names`. Refusals: 16 to 20, then 10 for either output. Success: flipcut_written for the
+ * matrix, flipcut_names_written for the list. */
+uint64_t flipcut_read_newick(const uint8_t *text, size_t text_len, uint8_t *matrix, size_t matrix_len, uint8_t *names,
+                             size_t names_len);
+
+/* Writes the tree of an answer file as Newick text to the start of `out`, each taxon by its name in a name list. Refusals:
+ * the answer's (1 to 4, 6, 8, 12 to 14, the place in the answer), then the list's (1, 2, 8, 16, 18, the place in the list),
+ * then 15 where it has not n names, 10 for `out`. Success: flipcut_written. */
+uint64_t flipcut_write_newick(const uint8_t *answer, size_t answer_len, const uint8_t *names, size_t names_len, uint8_t *out,
+                              size_t out_len);
+
+/* Checks a name list, of any number of names. Refusals: 1, 2, 8, 16, 18. Success: flipcut_names. */
+uint64_t flipcut_check_names(const uint8_t *names, size_t len);
+
 #ifdef __cplusplus
 }
 #endif
@@ -160,12 +179,33 @@ static inline uint64_t flipcut_score_lent(const uint8_t *matrix, size_t matrix_l
                          (const uint8_t *)flipcut_start(answer, answer_len), flipcut_length(answer, answer_len));
 }
 
+static inline uint64_t flipcut_read_newick_lent(const uint8_t *text, size_t text_len, uint8_t *matrix, size_t matrix_len,
+                                                uint8_t *names, size_t names_len) {
+    return flipcut_read_newick((const uint8_t *)flipcut_start(text, text_len), flipcut_length(text, text_len),
+                               (uint8_t *)flipcut_start(matrix, matrix_len), flipcut_length(matrix, matrix_len),
+                               (uint8_t *)flipcut_start(names, names_len), flipcut_length(names, names_len));
+}
+
+static inline uint64_t flipcut_write_newick_lent(const uint8_t *answer, size_t answer_len, const uint8_t *names,
+                                                 size_t names_len, uint8_t *out, size_t out_len) {
+    return flipcut_write_newick((const uint8_t *)flipcut_start(answer, answer_len), flipcut_length(answer, answer_len),
+                                (const uint8_t *)flipcut_start(names, names_len), flipcut_length(names, names_len),
+                                (uint8_t *)flipcut_start(out, out_len), flipcut_length(out, out_len));
+}
+
+static inline uint64_t flipcut_check_names_lent(const uint8_t *names, size_t len) {
+    return flipcut_check_names((const uint8_t *)flipcut_start(names, len), flipcut_length(names, len));
+}
+
 #define flipcut_check(...) flipcut_check_lent(__VA_ARGS__)
 #define flipcut_build(...) flipcut_build_lent(__VA_ARGS__)
 #define flipcut_split(...) flipcut_split_lent(__VA_ARGS__)
 #define flipcut_read(...) flipcut_read_lent(__VA_ARGS__)
 #define flipcut_write(...) flipcut_write_lent(__VA_ARGS__)
 #define flipcut_score(...) flipcut_score_lent(__VA_ARGS__)
+#define flipcut_read_newick(...) flipcut_read_newick_lent(__VA_ARGS__)
+#define flipcut_write_newick(...) flipcut_write_newick_lent(__VA_ARGS__)
+#define flipcut_check_names(...) flipcut_check_names_lent(__VA_ARGS__)
 
 /* The bits of a packed number from `low` on, `width` of them. */
 static inline uint64_t flipcut_bits(uint64_t packed, unsigned low, unsigned width) {
@@ -202,9 +242,20 @@ static inline unsigned flipcut_columns(uint64_t packed) {
     return (unsigned)flipcut_result(packed, 16, 16);
 }
 
-/* flipcut_build and flipcut_write: how many bytes were written. */
+/* flipcut_build, flipcut_write, flipcut_write_newick: how many bytes were written; flipcut_read_newick: how many of the
+ * matrix. */
 static inline size_t flipcut_written(uint64_t packed) {
     return (size_t)flipcut_result(packed, 32, 31);
+}
+
+/* flipcut_read_newick: how many bytes of the name list were written. */
+static inline size_t flipcut_names_written(uint64_t packed) {
+    return (size_t)flipcut_result(packed, 0, 32);
+}
+
+/* flipcut_check_names: how many names there are. */
+static inline uint64_t flipcut_names(uint64_t packed) {
+    return flipcut_result(packed, 0, 63);
 }
 
 /* flipcut_build: the total, which is the sum of the split costs. */

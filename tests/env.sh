@@ -6,6 +6,7 @@
 #   limit_stack     a function that sets run_limited, the words before a program of target/bin that is to have no more stack than it says
 #   c_flags, cxx_flags   the words after a compiler
 #   add_package     a function that installs one of Debian's packages
+#   need_dendropy   a function that sees to DendroPy, a library for Debian's own Python, /usr/bin/python3
 # and installs what is missing from Debian's packages.
 
 . "$(dirname "${BASH_SOURCE[0]}")/../scripts/machine.sh"
@@ -20,6 +21,10 @@ add_package() { # PACKAGE
 # Installs a package where its command is missing.
 need() { # COMMAND PACKAGE
     command -v "$1" >/dev/null || add_package "$2"
+}
+
+need_dendropy() {
+    /usr/bin/python3 -c 'import dendropy' 2>/dev/null || add_package python3-dendropy
 }
 
 need g++ g++

@@ -27,6 +27,9 @@ decltype(flipcut_split) __real_flipcut_split;
 decltype(flipcut_read) __real_flipcut_read;
 decltype(flipcut_write) __real_flipcut_write;
 decltype(flipcut_score) __real_flipcut_score;
+decltype(flipcut_read_newick) __real_flipcut_read_newick;
+decltype(flipcut_write_newick) __real_flipcut_write_newick;
+decltype(flipcut_check_names) __real_flipcut_check_names;
 
 std::uint64_t __wrap_flipcut_check(const std::uint8_t* file, std::size_t len) {
     return __real_flipcut_check(lent(file), len);
@@ -55,6 +58,20 @@ std::uint64_t __wrap_flipcut_write(const flipcut_answer* answer, const flipcut_f
 std::uint64_t __wrap_flipcut_score(const std::uint8_t* matrix, std::size_t matrix_len, const std::uint8_t* answer,
                                    std::size_t answer_len) {
     return __real_flipcut_score(lent(matrix), matrix_len, lent(answer), answer_len);
+}
+
+std::uint64_t __wrap_flipcut_read_newick(const std::uint8_t* text, std::size_t text_len, std::uint8_t* matrix,
+                                         std::size_t matrix_len, std::uint8_t* names, std::size_t names_len) {
+    return __real_flipcut_read_newick(lent(text), text_len, lent(matrix), matrix_len, lent(names), names_len);
+}
+
+std::uint64_t __wrap_flipcut_write_newick(const std::uint8_t* answer, std::size_t answer_len, const std::uint8_t* names,
+                                          std::size_t names_len, std::uint8_t* out, std::size_t out_len) {
+    return __real_flipcut_write_newick(lent(answer), answer_len, lent(names), names_len, lent(out), out_len);
+}
+
+std::uint64_t __wrap_flipcut_check_names(const std::uint8_t* names, std::size_t len) {
+    return __real_flipcut_check_names(lent(names), len);
 }
 
 }

@@ -1,9 +1,13 @@
 #include "cases.h"
 
 #include "../oracle/build.h"
+#include "../oracle/name_list.h"
+#include "../oracle/newick_text.h"
+#include "../oracle/source_trees.h"
 #include "answers.h"
 #include "damage.h"
 #include "matrices.h"
+#include "texts.h"
 
 namespace gen {
 
@@ -30,6 +34,9 @@ Bytes matrix_file_of(Random& random, const Matrix& matrix) {
 std::size_t workspace_for(Random& random, const Matrix& matrix) {
     return random.chance(10) ? matrix.n * matrix.columns.size() : around(random, oracle::one_entries(matrix));
 }
+
+// Whatever fits.
+constexpr std::size_t large = 1 << 20;
 
 // The answer of a build, or one of no matrix.
 Answer some_answer(Random& random) {
@@ -122,6 +129,39 @@ SmallScoreCase small_score_case(Random& random) {
     if (random.chance(20)) take_ones_out(random, made.matrix);
     made.built = random.chance(40);
     made.answer = made.built ? oracle::answer_of(made.matrix) : random_answer(random, n, m);
+    return made;
+}
+
+NewickCase newick_case(Random& random, const Bytes& text) {
+    const oracle::NewickOutcome whole = oracle::read_newick(text, large, large);
+    NewickCase made{text, random.below(120), random.below(60)};
+    if (whole.refusal.refused()) return made;
+    made.matrix_room = around(random, whole.matrix.size());
+    made.names_room = around(random, whole.names.size());
+    return made;
+}
+
+// Few names, or more than a tree may have.
+Bytes names_case(Random& random) {
+    const std::size_t most[] = {2, 8, 64, 200};
+    const std::vector<std::string> names = random_names(random, random.below(most[random.below(4)] + 1));
+    if (random.chance(30)) return oracle::names_file(names);
+    return random.chance(95) ? unlawful_names(random, names) : random_bytes(random);
+}
+
+NewickTextCase newick_text_case(Random& random) {
+    const unsigned taxa[] = {3, 6, 12, 64};
+    const unsigned n = static_cast<unsigned>(random.between(1, taxa[random.below(4)]));
+    Answer answer = random_answer(random, n, static_cast<unsigned>(random.below(6)));
+    if (random.chance(10)) spoil_records(random, answer);
+    const std::size_t counts[] = {n - 1, n + 1, 70, 0};
+    const std::size_t count = random.chance(85) ? n : counts[random.below(4)];
+    const std::vector<std::string> names = random_names(random, count);
+    NewickTextCase made;
+    made.answer = maybe_damaged(random, oracle::answer_file(answer));
+    made.names = random.chance(10) ? unlawful_names(random, names) : oracle::names_file(names);
+    const std::size_t length = oracle::write_newick(made.answer, made.names, large).text.size();
+    made.room = around(random, length);
     return made;
 }
 

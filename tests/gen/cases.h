@@ -46,11 +46,27 @@ struct SmallScoreCase {
     bool built;  // the answer is the matrix's own
 };
 
+struct NewickCase {
+    oracle::Bytes text;
+    std::size_t matrix_room;
+    std::size_t names_room;
+};
+
+struct NewickTextCase {
+    oracle::Bytes answer;
+    oracle::Bytes names;
+    std::size_t room;
+};
+
 SplitCase split_case(Random& random);
 BuildCase build_case(Random& random);
 ReadCase read_case(Random& random);
 WriteCase write_case(Random& random);
 ScoreCase score_case(Random& random);
 SmallScoreCase small_score_case(Random& random);
+// Of this text: each output just long enough, now and then longer or too short; where the text is refused, of any length.
+NewickCase newick_case(Random& random, const oracle::Bytes& text);
+oracle::Bytes names_case(Random& random);
+NewickTextCase newick_text_case(Random& random);
 
 }  // namespace gen

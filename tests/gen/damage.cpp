@@ -115,6 +115,17 @@ std::vector<Bytes> byte_changes(const Bytes& file) {
     return changed;
 }
 
+std::vector<Bytes> all_byte_changes(const Bytes& file) {
+    std::vector<Bytes> changed;
+    for (std::size_t at = 0; at < file.size(); ++at)
+        for (unsigned value = 0; value < 256; ++value) {
+            Bytes other = file;
+            other[at] = static_cast<std::uint8_t>(value);
+            if (other != file) changed.push_back(other);
+        }
+    return changed;
+}
+
 std::vector<Bytes> records_of(const Bytes& file) {
     Records records;
     for (std::size_t at = 0; at < file.size();) {

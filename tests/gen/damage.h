@@ -18,6 +18,9 @@ std::vector<Bytes> prefixes(const Bytes& file);
 // Every byte of a file replaced by each of several values, one at a time.
 std::vector<Bytes> byte_changes(const Bytes& file);
 
+// Every byte of a file replaced by every other value, one at a time.
+std::vector<Bytes> all_byte_changes(const Bytes& file);
+
 // The records that the file's own lengths lead through, the last one maybe short.
 std::vector<Bytes> records_of(const Bytes& file);
 Bytes joined(const std::vector<Bytes>& records);

@@ -23,11 +23,13 @@ std::size_t payload_length(Kind kind) {
         case Kind::matrix_head: return 4;
         case Kind::column: return 18;
         case Kind::matrix_end: return 0;
-        case Kind::multiplicities: break;
+        case Kind::multiplicities:
+        case Kind::name: break;
         case Kind::answer_head: return 12;
         case Kind::group: return 12;
         case Kind::flips: return 18;
         case Kind::answer_end: return 0;
+        case Kind::name_end: return 0;
     }
     throw std::logic_error("a record of no length in particular");
 }
@@ -37,14 +39,18 @@ bool RecordReader::next_is(Kind kind) const {
 }
 
 // "Within a record: fewer than 4 bytes left (1), kind or length (2), payload short (1)."
-void RecordReader::open(Kind kind, std::size_t length) {
+std::size_t RecordReader::open_between(Kind kind, std::size_t least, std::size_t most) {
     start_ = next_;
     if (file_.size() - start_ < frame_length) refuse(1, start_);
-    if (!next_is(kind) || number_at(file_, start_, 2) != length) refuse(2, start_);
+    const std::size_t length = number_at(file_, start_, 2);
+    if (!next_is(kind) || length < least || length > most) refuse(2, start_);
     if (file_.size() - start_ < frame_length + length) refuse(1, start_);
     payload_ = start_ + frame_length;
     next_ = payload_ + length;
+    return length;
 }
+
+void RecordReader::open(Kind kind, std::size_t length) { open_between(kind, length, length); }
 
 std::uint64_t RecordReader::take(std::size_t width) {
     const std::uint64_t number = number_at(file_, payload_, width);

@@ -20,11 +20,13 @@ enum class Kind : std::uint16_t {
     group = 18,
     flips = 19,
     answer_end = 20,
+    name = 33,
+    name_end = 34,
 };
 
 constexpr std::size_t frame_length = 4;
 
-// For every kind but the multiplicities, whose length is the number of taxa.
+// For every kind but the multiplicities, whose length is the number of taxa, and names, whose length is their own.
 std::size_t payload_length(Kind kind);
 
 // Frame and payload together.
@@ -40,6 +42,8 @@ public:
     // The next record has to be of this kind and length: refusals 1, 2 and 1, in this order.
     void open(Kind kind, std::size_t length);
     void open(Kind kind) { open(kind, payload_length(kind)); }
+    // The same where the record says its length itself, from `least` to `most`; what it says.
+    std::size_t open_between(Kind kind, std::size_t least, std::size_t most);
     // The next number of the open record's payload.
     std::uint64_t take(std::size_t width);
     // Where the open record starts.

@@ -10,8 +10,8 @@ use native.Mathlib.Omega.{arith}
 use lib.Dec.{eqb}
 use borrow.Author.Tests.{eqb-true, eqb-false, lt-ltb, le-ltb, ne-eqb}
 use Rattle.taxa.specs.Sets.{_∈_, _⊆_, _∖_, within, count, low}
-use Rattle.taxa.proofs.Members.{in∖, ⊆-refl, ⊆-trans, ∖-⊆, ⊆-≤, in-pow, pow-⊆, below, low-in, within-⊆}
-use Rattle.taxa.proofs.Counts.{count-le, count-pow, count-<, count-zero, count-tight, count-⊆}
+use Rattle.taxa.proofs.Members.{none, in?, in∖, ext, ⊆-refl, ⊆-trans, ∖-⊆, ⊆-≤, in-pow, pow-⊆, below, low-in, within-⊆}
+use Rattle.taxa.proofs.Counts.{count-le, count-pow, count-<, count-pos, count-zero, count-tight, count-⊆}
 use Rattle.grammar.specs.Trees.{leaf}
 use Rattle.grammar.specs.Columns.{Bytes}
 use Rattle.clades.specs.Draw.{wider, part, parts, joined, draw, drawn}
@@ -25,6 +25,12 @@ proper-< {P} {S} s i n = go (ℕ-discrete (count 64 P) (count 64 S))
     go : Dec (count 64 P ≡ count 64 S) → count 64 P < count 64 S
     go (yes e) = absurd (n (count-tight 64 s i e))
     go (no m) = omega (arith, count-⊆ 64 i)
+
+pub nothing-more : {P S : ℕ} → P ⊆ S → S ∖ P ≡ 0 → P ≡ S
+nothing-more {P} {S} s z = ext s (record { sub = λ {i} x. elim (in? i P) [ yes y ↦ y | no n ↦ absurd (none (rw z at (in∖ S P .1 (x, n)))) ] })
+
+pub some-more : {P S : ℕ} → P ⊆ S → (P ≡ S → ⊥) → 0 < S ∖ P
+some-more {P} {S} s n = elim (ℕ-discrete (S ∖ P) 0) [ yes z ↦ absurd (n (nothing-more s z)) | no m ↦ omega arith ]
 
 -- ---- the part of a taxon
 
@@ -102,6 +108,12 @@ module _ (gs : List ℕ) {S : ℕ} (fits : S < 2 ^ 64) (two : 1 < count 64 S) wh
       let l = left-< s p in
       let rest = enough 63 64 {R = R ∖ P} (⊆-trans (∖-⊆ R P) s) (omega (arith, count-le 64 R)) (omega (arith, count-le 64 R)) in
       some-left gs S 63 p ∙ ap (λ ps. P ∷ ps) rest
+
+  pub two-parts : (P : ℕ) × (Q : ℕ) × (Ps : List ℕ) × (parts gs S 64 S ≡ P ∷ Q ∷ Ps)
+  two-parts =
+      let some = count-pos 64 {x = S} (omega arith) in
+      let p = piece-in (⊆-refl S) some in
+      let rest = parts-next (∖-⊆ S _) (some-more (p .inside) (p .proper)) in (_, _, _, parts-next (⊆-refl S) some ∙ ap (λ ps. part gs S (low 64 S) ∷ ps) rest)
 
   -- Two functions that are the same on smaller sets.
   parts-same : {A : Type 0} {g h : ℕ → A} → ((P : ℕ) → P ⊆ S → count 64 P < count 64 S → g P ≡ h P) → (f : ℕ) {R : ℕ} → R ⊆ S → map g (parts gs S f R) ≡ map h (parts gs S f R)

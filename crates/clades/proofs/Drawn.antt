@@ -6,14 +6,14 @@ use Prim.Native.Nat.{ℕ, zero, suc, _^_, _≤_, _<_}
 use native.Mathlib.Decide.{ℕ-discrete}
 use native.Mathlib.Omega.{arith}
 use Rattle.taxa.specs.Sets.{_∈_, _⊆_, _∪_, _∖_, count, low}
-use Rattle.taxa.proofs.Members.{none, in?, in∪, in∖, ext, ⊆-refl, ⊆-trans, ∖-⊆, ∪-⊆, ⊆-≤, in-pow, pow-in, pow-⊆, low-in, low-≤, low-is}
+use Rattle.taxa.proofs.Members.{in∪, in∖, ext, ⊆-refl, ⊆-trans, ∖-⊆, ∪-⊆, ⊆-≤, in-pow, pow-in, pow-⊆, low-in, low-≤, low-is}
 use Rattle.taxa.proofs.Counts.{count-le, count-pos, count-zero}
 use Rattle.grammar.specs.Trees.{Tree, Trees, then}
 use Rattle.grammar.specs.Columns.{Bytes}
 use Rattle.clades.specs.Shows.{Groups, Lowest, Part, Shows, taxon, group, Row, first, next}
 use Rattle.clades.specs.Draw.{part, parts, bracket, joined, drawn}
 use Rattle.clades.proofs.Parts.{row-in}
-use Rattle.clades.proofs.Drawing.{alone, proper-<, Grows, takes, keeps, grows, piece, none-left, some-left, left-<, parts-next, drawn-taxon, drawn-group}
+use Rattle.clades.proofs.Drawing.{alone, proper-<, nothing-more, some-more, Grows, takes, keeps, grows, piece, none-left, some-left, left-<, parts-next, drawn-taxon, drawn-group}
 
 -- The lowest taxon of what is left.
 lowest : {R : ℕ} → R < 2 ^ 64 → 0 < R → Lowest R (low 64 R)
@@ -74,12 +74,6 @@ module _ {gs : List ℕ} (gr : Groups gs) where
       shown p = ih _ (part-vertex p) (part-< g p) (omega (arith, gr .fits g, ⊆-≤ (p .inside)))
 
       -- The parts so far are E, and R is left.
-      whole : {E R : ℕ} → E ⊆ S → R ≡ S ∖ E → R ≡ 0 → E ≡ S
-      whole {E} s e z = ext s (record { sub = λ {i} x. elim (in? i E) [ yes y ↦ y | no n ↦ absurd (none (rw (← e, z) at (in∖ S E .1 (x, n)))) ] })
-
-      some-left-of : {E : ℕ} → E ⊆ S → (E ≡ S → ⊥) → 0 < S ∖ E
-      some-left-of {E} s n = elim (ℕ-discrete (S ∖ E) 0) [ yes z ↦ absurd (n (whole s refl z)) | no m ↦ omega arith ]
-
       left-in : (E : ℕ) {R : ℕ} → R ≡ S ∖ E → R ⊆ S
       left-in E e = rw e (∖-⊆ S E)
 
@@ -92,7 +86,7 @@ module _ {gs : List ℕ} (gr : Groups gs) where
       row-ends : (f : ℕ) {D P i R : ℕ} {ts : Trees} → Row name gs S D ts → Lowest (S ∖ D) i → Part gs S i P → R ≡ S ∖ (D ∪ P) → R ≡ 0
           → Shows name gs S (bracket ts (tree P) (map tree (parts gs S f R)))
       unfolding bracket
-      row-ends f r o p e z = rw (z, none-left gs S f) (group g r o p (shown p) (whole (∪-⊆ (row-in (gr .laminar) r) (p .inside)) e z))
+      row-ends f r o p e z = rw (z, none-left gs S f) (group g r o p (shown p) (nothing-more (∪-⊆ (row-in (gr .laminar) r) (p .inside)) (sym e ∙ z)))
 
       -- The next part of what is left.
       next-lowest : (E : ℕ) {R : ℕ} → R ≡ S ∖ E → 0 < R → Lowest (S ∖ E) (low 64 R)
@@ -125,7 +119,7 @@ module _ {gs : List ℕ} (gr : Groups gs) where
           let some = count-pos 64 {x = S} (omega arith) in
           let P = part gs S (low 64 S) in
           let p = part-is g (low-in 64 some fits) in
-          let more = some-left-of (p .inside) (p .proper) in
+          let more = some-more (p .inside) (p .proper) in
           let Q = part gs S (low 64 (S ∖ P)) in
           rw (drawn-group name gs S fits two, parts-next gs fits two (⊆-refl S) some, parts-next gs fits two (∖-⊆ S P) more)
           (row-shows 64 (first (lowest fits some) p (shown p)) (next-lowest P refl more) (next-part P refl more) (less P Q refl) (count-le 64 ((S ∖ P) ∖ Q)))
@@ -140,5 +134,5 @@ module _ {gs : List ℕ} (gr : Groups gs) where
     all-show (suc f) S v s l = ⊎-elim (λ g. group-shows g (λ P w k t. all-show f P w t (omega arith))) (λ (i, e). single S i e s) v
 
     -- Each group, and each taxon alone, as drawn.
-    pub drawn-shows : {S : ℕ} → Vertex S → S < 2 ^ 64 → Shows name gs S (tree S)
+    pub drawn-shows : {S : ℕ} → List·Memᴰ S gs ⊎ ((i : ℕ) × (S ≡ 2 ^ i)) → S < 2 ^ 64 → Shows name gs S (drawn name gs S)
     drawn-shows {S} v s = all-show (count 64 S) S v s (omega arith)

@@ -109,3 +109,8 @@ pub seen-distinct : (ns ms : List Bytes) → Distinct [] ns → Distinct [] (see
 unfolding seen
 seen-distinct ns [] d = d
 seen-distinct ns (m ∷ ms) d = seen-distinct (with ns m (isIn m ns)) ms (with-distinct ns m (isIn m ns) refl d)
+
+-- Names of which none stands twice.
+pub apart : {n : Bytes} {ns ms : List Bytes} → Distinct ns ms → List·Memᴰ n ns → List·Memᴰ n ms → ⊥
+apart (next e d) h (List·Memᴰ·head f) = true≢false (sym (mem-isIn (rw f at h)) ∙ e)
+apart (next {m} e d) h (List·Memᴰ·tail g) = apart d (Memᴰ·append-left (m ∷ []) h) g

@@ -30,17 +30,17 @@ use Rattle.names.proofs.Taken.{taken-is-file, taken-count}
 
 module _ (file : List ℕ) where
   -- A refusal at a place of the file or at its end, by one of the check's numbers.
-  abbrev There : Refusal → Type 0
-  There why = (why .place ≤ length file) × (0 < why .number) × (why .number ≤ 18)
+  abbrev Placed : Refusal → Type 0
+  Placed why = (why .place ≤ length file) × (0 < why .number) × (why .number ≤ 18)
 
   -- If it is refused, it is there: a reading that keeps no values, and the whole.
   abbrev Told : Passed → Type 0
   Told (At c) = Unit {0}
-  Told (Refused why) = There why
+  Told (Refused why) = Placed why
 
   abbrev ToldOf : Listing → Type 0
   ToldOf (names ns) = Unit {0}
-  ToldOf (refusal why) = There why
+  ToldOf (refusal why) = Placed why
 
   -- A record at a place, and then the tests of its content.
   told-judged : (at : ℕ) (it : Record) → at ≤ length file → (judge : ℕ → Cursor → Passed) → ((b : ℕ) (c : Cursor) → Told (judge b c))
@@ -87,7 +87,7 @@ module _ (file : List ℕ) where
       (told-goes (namePassed file before here) _ (told-name before here h) (λ c e. told-in t with-it c (omega (arith, passing file before here e .stands))))
       (told-ended before (endPassed file here) (told-end here h))
 
-  told-counted : (l : Listing) {why : Refusal} → ToldOf l → answer.Refused why ≡ counted l → There why
+  told-counted : (l : Listing) {why : Refusal} → ToldOf l → answer.Refused why ≡ counted l → Placed why
   told-counted (names ns) t e = absurd (let z : _≡_ {A = ℕ} 0 1 = cc in omega arith)
   told-counted (refusal it) {why} t e = let same : why ≡ it = cc in rw same t
 

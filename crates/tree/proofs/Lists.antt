@@ -3,7 +3,7 @@
 use mathlib.Core.Path.{_≡_, refl, ap, _∙_, subst}
 use mathlib.Core.Bool.{Bool, true, false, cond}
 use mathlib.Core.Logic.{⊎-elim}
-use mathlib.Core.List.{List, [], _∷_, _++_, map, map-append, List·Memᴰ, List·Memᴰ·head, List·Memᴰ·tail}
+use mathlib.Core.List.{List, [], _∷_, _++_, map, map-append, List·Memᴰ, List·Memᴰ·head}
 use mathlib.Core.List.{List·Memᴰ·not-nil, List·Memᴰ·eq-of-singleton, List·Memᴰ·append-cases, Memᴰ·append-left, Memᴰ·append-right}
 use Prim.Native.Nat.{ℕ, zero, suc, _+_, _≤_, _<_}
 use native.Mathlib.Nat.{eq-or-lt-of-le, le-of-suc-le-suc}
@@ -19,13 +19,6 @@ use Rattle.method.specs.Tree.{Group, Flips, kept, ordered, flipsOf, flipList, t
 use Rattle.method.proofs.Walks.{total-++}
 use Rattle.tree.specs.Lists.{firstGroups, firstFlips}
 use Rattle.tree.specs.inner.Lists.{startsAt, FlipRoom, SameFrom, unflipped}
-
--- ---- elements by their number
-
-pub getD-in : {A : Type 0} (d : A) (l : List A) (i : ℕ) → i < length l → List·Memᴰ (getD l i d) l
-getD-in d [] i b = absurd (omega arith)
-getD-in d (x ∷ xs) zero b = List·Memᴰ·head refl
-getD-in d (x ∷ xs) (suc i) b = List·Memᴰ·tail (getD-in d xs i (omega arith))
 
 -- ---- groups
 

@@ -7,12 +7,13 @@ use native.Mathlib.Omega.{arith}
 use lib.ListN.{length, getD, length-map, List·getD-map}
 use Rattle.taxa.specs.Sum.{sum}
 use Rattle.taxa.proofs.Sums.{sum-first}
+use Rattle.record.proofs.Lists.{getD-in}
 use Rattle.method.specs.Tree.{Group, Flips, Line, end, and, Matrix, Sound, answer, total}
 use Rattle.method.proofs.Promises as promises
 use Rattle.answer.specs.Content.{Content, lengthOf}
 use Rattle.answer.specs.Lawful.{LawfulHead, LawfulGroups, LawfulFlips, Lawful}
 use Rattle.tree.specs.Build.{contentWith, contentFor, roomFor}
-use Rattle.tree.proofs.Lists.{getD-in, list-few}
+use Rattle.tree.proofs.Lists.{list-few}
 
 -- ---- elements by their number
 

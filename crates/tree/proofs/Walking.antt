@@ -12,6 +12,7 @@ use lib.Seq.{drop-cons, getD-take, length-take-le}
 use Rattle.taxa.specs.Sets.{multiplicityIn, count}
 use Rattle.taxa.proofs.Members.{⊆-≤}
 use Rattle.method.specs.Split.{Column, splitCost, after, splitParts}
+use Rattle.record.proofs.Lists.{getD-in}
 use Rattle.method.specs.Tree.{Group, Walk, leaf, walked, node, build, now, later}
 use Rattle.method.proofs.Depth.{build-leaf, build-node}
 use Rattle.method.proofs.Order.{split-two, split-beside}
@@ -20,7 +21,6 @@ use Rattle.method.proofs.Splits.{split-parts, part-in}
 use Rattle.search.specs.Search.{colsOf}
 use Rattle.split.specs.inner.Handing.{Parallel}
 use Rattle.tree.specs.inner.Grow.{Loaded, Ready, TurnsClear, Grown, AllSmall}
-use Rattle.tree.proofs.Lists.{getD-in}
 
 -- The next set of a list, and those after it.
 drop-next : (Ps : List ℕ) (i : ℕ) → i < length Ps → drop i Ps ≡ getD Ps i 0 ∷ drop (i + 1) Ps
