@@ -38,9 +38,10 @@ use Rattle.names.proofs.Places.{refusal-there, taken-few}
 use Rattle.grammar.proofs.Faults.{refused-known}
 use Rattle.newick.specs.declared.Derived.{Derived}
 use Rattle.newick.specs.Read as newick
-use Rattle.newick.proofs.Taken.{Comes, taken, short, faulty, comes}
+use Rattle.newick.proofs.Taken.{Comes, comes}
+use Rattle.newick.proofs.Taken as read
 use Rattle.newick.proofs.Promises.{room-needed}
-use Rattle.flipcut.specs.inner.Fitting.{CheckFits, BuildFits, SplitFits, ReadFits, WriteFits, ScoreFits, NamesFit, TreesFit, TextFits}
+use Rattle.flipcut.specs.inner.Fitting.{CheckFits, BuildFits, SplitFits, ReadFits, WriteFits, ScoreFits, NamesFit, TreesFit}
 
 pub check-fits : {file : List ℕ} → File file → CheckFits (checked file)
 check-fits {file} f = go (checked file) refl
@@ -106,14 +107,14 @@ module _ (text : List ℕ) (room space : ℕ) where
   trees-fit = go (comes text room space)
     where
       go : {r : Derived} → Comes text room space r → TreesFit r
-      go (taken ts s a b) = let (sum, matrix, rest, list) = room-needed s in (omega arith, omega arith)
-      go (short ts s a) = (omega arith, omega arith)
-      go (faulty number place f) = let (least, most, inside) = refused-known text f in (omega arith, omega arith)
+      go (read.taken ts s fit) = let (sum, matrix, rest, list) = room-needed s in (omega arith, omega arith)
+      go (read.short ts s lacks) = (omega arith, omega arith)
+      go (read.faulty number place f) = let (least, most, inside) = refused-known text f in (omega arith, omega arith)
 
   pub trees-near : length text < 2 ^ 55 → newick.readNumbers text room space .place < 2 ^ 55
   trees-near small = go (comes text room space)
     where
       go : {r : Derived} → Comes text room space r → newick.returned r .place < 2 ^ 55
-      go (taken ts s a b) = omega arith
-      go (short ts s a) = omega arith
-      go (faulty number place f) = let (least, most, inside) = refused-known text f in omega arith
+      go (read.taken ts s fit) = omega arith
+      go (read.short ts s lacks) = omega arith
+      go (read.faulty number place f) = let (least, most, inside) = refused-known text f in omega arith

@@ -1,8 +1,10 @@
 -- What C takes apart are the numbers that document 01 has the operation return: of the check (`check-unpacks`), the build (`build-unpacks`), the split
--- (`split-unpacks`), reading (`read-unpacks`), writing (`write-unpacks`) and the score (`score-unpacks`).
+-- (`split-unpacks`), reading (`read-unpacks`), writing (`write-unpacks`), the score (`score-unpacks`), the check of a name list (`names-unpacks`) and reading
+-- source trees (`trees-unpacks`); of the last two where the text or the list is below 2 to the 55 bytes, and the number always.
 use mathlib.Core.Path.{_≡_, _∙_, ap}
 use mathlib.Core.List.{List}
-use Prim.Native.Nat.{ℕ}
+use Prim.Native.Nat.{ℕ, _^_, _<_}
+use native.Mathlib.Omega.{arith}
 use lib.IntN.{ℤ}
 use lib.ListN.{length}
 use Rattle.record.specs.Bytes.{File}
@@ -16,11 +18,14 @@ use Rattle.entries.specs.Entries.{entryContent}
 use Rattle.split.specs.Operation.{splitNumbers}
 use Rattle.tree.specs.Build.{buildNumbers}
 use Rattle.score.specs.Operation.{scored, scoreNumbers}
-use Rattle.flipcut.specs.Packed.{packed, packedScore, BuildsPacked, SplitsPacked, ReadsPacked, WritesPacked}
-use Rattle.flipcut.specs.Unpacked.{unpacked, unpackedBuild, unpackedRead, unpackedScore, unpackedSplit, unpackedWrite}
-use Rattle.flipcut.proofs.Fitting.{check-fits, build-fits, split-fits, read-fits, write-fits, score-fits}
+use Rattle.names.specs.Check as names
+use Rattle.newick.specs.Read as newick
+use Rattle.flipcut.specs.inner.Fitting.{TreesFit}
+use Rattle.flipcut.specs.Packed.{packed, packedScore, packedNames, BuildsPacked, SplitsPacked, ReadsPacked, WritesPacked, ReadsNewickPacked}
+use Rattle.flipcut.specs.Unpacked.{unpacked, unpackedBuild, unpackedRead, unpackedScore, unpackedSplit, unpackedWrite, unpackedNames, unpackedTrees, numberIn}
+use Rattle.flipcut.proofs.Fitting.{check-fits, build-fits, split-fits, read-fits, write-fits, score-fits, names-fit, names-near, trees-fit, trees-near}
 use Rattle.flipcut.proofs.Values.{read-long}
-use Rattle.flipcut.proofs.Bits.{check-returns, build-returns, split-returns, read-returns, write-returns, score-returns}
+use Rattle.flipcut.proofs.Bits.{check-returns, build-returns, split-returns, read-returns, write-returns, score-returns, names-returns, trees-returns, trees-number}
 
 pub check-unpacks : {file : List ℕ} → File file → unpacked (packed (checked file)) ≡ checkNumbers file
 check-unpacks {file} f = check-returns (checked file) (check-fits f)
@@ -49,3 +54,20 @@ write-unpacks answer list p = ap unpackedWrite (p .packs) ∙ (write-returns (p 
 
 pub score-unpacks : {matrix : List ℕ} (answer : List ℕ) → File matrix → unpackedScore (packedScore (scored matrix answer)) ≡ scoreNumbers matrix answer
 score-unpacks {matrix} answer f = score-returns (scored matrix answer) (score-fits f answer)
+
+-- ---- texts and name lists below 2 to the 55 bytes
+
+pub names-unpacks : {file : List ℕ} → File file → length file < 2 ^ 55 → unpackedNames (packedNames (names.checked file)) ≡ names.checkNumbers file
+names-unpacks {file} f small = names-returns (names.checked file) (names-fit f (omega arith)) (names-near file small)
+
+module _ {text matrix names matrix′ names′ : List ℕ} {v : ℕ} (p : ReadsNewickPacked text matrix names v matrix′ names′) where
+  fit : TreesFit (p .answer)
+  fit = rw (p .promised .answers) (trees-fit text (length matrix) (length names))
+
+  pub trees-unpacks : length text < 2 ^ 55 → unpackedTrees v ≡ newick.readNumbers text (length matrix) (length names)
+  trees-unpacks small =
+      ap unpackedTrees (p .packs) ∙ trees-returns (p .answer) fit (rw (p .promised .numbers) (trees-near text (length matrix) (length names) small)) ∙ p .promised .numbers
+
+  -- The number, however long the text is.
+  pub trees-number-unpacks : numberIn v ≡ newick.readNumbers text (length matrix) (length names) .number
+  trees-number-unpacks = ap numberIn (p .packs) ∙ trees-number (p .answer) fit ∙ ap (λ (x : newick.Returned). x .number) (p .promised .numbers)

@@ -8,15 +8,15 @@ use names::Listed;
 use newick::Derived;
 use record::Refusal;
 use score::Scored;
-use spelling::Spelled;
 use split::Divided;
 use tree::Built;
 ghost use mathlib.Core.Path.{_≡_};
+ghost use Prim.Native.Nat.{min};
 ghost use Rattle.flipcut.specs.Packed.{packed, packedBuild, packedRead, packedRefusal, packedScore, packedSplit, packedWrite};
-ghost use Rattle.flipcut.specs.Packed.{packedNames, packedText, packedTrees, resultAfter, told, valueAfter, withGroups};
+ghost use Rattle.flipcut.specs.Packed.{packedNames, packedTrees, lastPlace, told, resultAfter, valueAfter, withGroups};
 ghost use Rattle.answer.specs.declared.Verdict.the-variants.{Taken};
 ghost use Rattle.flipcut.specs.inner.Fitting.{RefusalFits, CheckFits, BuildFits, SplitFits, ReadFits, WriteFits, ScoreFits};
-ghost use Rattle.flipcut.specs.inner.Fitting.{NamesFit, TreesFit, TextFits};
+ghost use Rattle.flipcut.specs.inner.Fitting.{NamesFit, TreesFit};
 
 const MOST_GROUPS: usize = 63;
 
@@ -136,17 +136,24 @@ pub fn score(answer: Scored) -> u64
     }
 }
 
-// A refusal in a text or a name list, which may be longer than a matrix or an answer file ever is.
-fn told(why: Refusal) -> Refusal
-    ensures { λ r. ⌜ r ≡ told why ⌝ }
+// The place itself, or the last that can be told.
+fn near(place: usize) -> usize
+    ensures { λ r. ⌜ r ≡ min place lastPlace ⌝ }
 {
-    if why.place < LAST_PLACE {
-        return why;
+    if place < LAST_PLACE {
+        return place;
     }
-    Refusal {
+    LAST_PLACE
+}
+
+// A refusal in a text or a name list: no bound is set to these, as there is to a matrix or an answer.
+fn far_refusal(why: Refusal) -> u64
+    ensures { λ r. ⌜ r ≡ packedRefusal (told why) ⌝ }
+{
+    refusal(Refusal {
         number: why.number,
-        place: LAST_PLACE,
-    }
+        place: near(why.place),
+    })
 }
 
 pub fn check_names(answer: Listed) -> u64
@@ -155,7 +162,7 @@ pub fn check_names(answer: Listed) -> u64
 {
     match answer {
         Listed::Taken(count) => count as u64,
-        Listed::Refused(why) => refusal(told(why)),
+        Listed::Refused(why) => far_refusal(why),
     }
 }
 
@@ -165,16 +172,6 @@ pub fn read_newick(answer: Derived) -> u64
 {
     match answer {
         Derived::Taken(matrix, names) => names as u64 + 0x1_0000_0000 * matrix as u64,
-        Derived::Refused(why) => refusal(told(why)),
-    }
-}
-
-pub fn write_newick(answer: Spelled) -> u64
-    requires { ⌜ TextFits answer ⌝ }
-    ensures { λ r. ⌜ r ≡ packedText answer ⌝ }
-{
-    match answer {
-        Spelled::Length(size) => 0x1_0000_0000 * size as u64,
-        Spelled::Refused(why) => refusal(told(why)),
+        Derived::Refused(why) => far_refusal(why),
     }
 }
