@@ -1,16 +1,15 @@
 -- Each token, as the reader's lists hold what is kept of it: from a place between tokens to the next, or to a refusal.
-use mathlib.Core.Path.{_≡_, refl, sym, ap, _∙_, subst}
-use mathlib.Core.Bool.{Bool, true, false, cond, true≢false}
+use mathlib.Core.Path.{_≡_, refl, sym, ap, _∙_}
+use mathlib.Core.Bool.{Bool, true, false, cond}
 use mathlib.Core.List.{List, [], _∷_, _++_, map, map-append, append-assoc, append-nil}
 use Prim.Native.Nat.{ℕ, zero, suc, _+_, _-_, _^_, _≤_, _<_}
-use native.Mathlib.Nat.{add-zero}
 use native.Mathlib.Numerals.{add-one}
 use native.Mathlib.Omega.{arith}
 use lib.Dec.{eqb, ltb}
 use lib.ListN.{length, getD, set, take, drop, length-set, length-drop}
 use lib.Seq.{getD-set-same, getD-set-other, take-set-le, drop-set-add, take-set-lt, take-suc, take-suc-set, take-add, length-take-le, getD-drop}
-use borrow.Author.Tests.{eqb-true, eq-eqb, ne-eqb, lt-ltb, le-ltb}
-use Rattle.taxa.specs.Sets.{_∪_, _∖_, within}
+use borrow.Author.Tests.{ne-eqb, lt-ltb, le-ltb}
+use Rattle.taxa.specs.Sets.{_∖_, within}
 use Rattle.grammar.specs.Bytes.{byte, isBlank, isLetter, left, right, comma, semicolon}
 use Rattle.grammar.specs.Trees.{Trees, word, sign}
 use Rattle.grammar.specs.Verdict.{goes, accepted, refused}
@@ -19,12 +18,12 @@ use Rattle.grammar.specs.Limits.{number}
 use Rattle.grammar.specs.inner.Shape.{beginning, ended}
 use Rattle.grammar.specs.inner.Standing.{Run, piece, Standing}
 use Rattle.grammar.proofs.Standing as standing
-use Rattle.grammar.proofs.Standing.{skips, cannot-begin, cannot-follow, opens, open-refused, closes, closes-one, closes-none, goes-to-next, next-outside, finishes, finishes-inside, names, name-refused, too-long, ends, ends-unfinished, ends-treeless, ends-inside}
-use Rattle.ledger.specs.inner.Ledger.{Ledger, Opened, unwritten, note, outcome, wrongs, keep, opening, entering, known}
+use Rattle.grammar.proofs.Standing.{piece-length, skips, cannot-begin, cannot-follow, opens, open-refused, closes, closes-one, closes-none, goes-to-next, next-outside, finishes, finishes-inside, names, name-refused, too-long, ends, ends-unfinished, ends-treeless, ends-inside}
+use Rattle.ledger.specs.inner.Ledger.{Ledger, unwritten, note, outcome, wrongs, keep, opening, entering, known}
 use Rattle.newick.specs.declared.Reading.{Reading}
-use Rattle.newick.specs.inner.Names.{Placed, namesIn}
-use Rattle.newick.specs.inner.Book.{Book, withNames, withBrackets, withColumns, bracketsIn, filledIn, ledgerIn, Bracketed, Holds, SignAt, cladePut, withName, Roomy}
-use Rattle.newick.proofs.Names.{one-further, length-piece, number-most, length-names, names-more}
+use Rattle.newick.specs.inner.Names.{namesIn}
+use Rattle.newick.specs.inner.Book.{Book, withNames, withBrackets, withColumns, bracketsIn, filledIn, ledgerIn, Holds, SignAt, cladePut, withName, Roomy}
+use Rattle.newick.proofs.Names.{one-further, number-most, length-names, names-more}
 
 -- ---- the lists of open brackets
 
@@ -344,7 +343,7 @@ module _ {text : List ℕ} {k : Book} {r : Reading} (h : Holds text k r) where
 
     module _ (some : r .at < end) (short : end - r .at ≤ 32) (i : ℕ) (e : i ≡ number taxa read) where
       size : length read ≡ end - r .at
-      size = length-piece text (r .at) (end - r .at) (omega (arith, run .within))
+      size = piece-length text (r .at) (end - r .at) (omega (arith, run .within))
 
       abbrev before-it : Ledger
       before-it = ledgerIn text k r

@@ -1,7 +1,7 @@
 -- From what the reader has found to what the operation promises: `found` at the text's end, `told` where it is refused, `short` where an output is too short, `written`.
 use mathlib.Core.Path.{_≡_, refl, sym, ap, _∙_}
-use mathlib.Core.Bool.{true, false, _||_, cond}
-use mathlib.Core.List.{List, [], map}
+use mathlib.Core.Bool.{_||_, cond}
+use mathlib.Core.List.{List, []}
 use Prim.Native.Nat.{ℕ, _+_, _*_, _≤_, _<_}
 use native.Mathlib.Omega.{arith}
 use lib.Dec.{ltb}
@@ -26,7 +26,7 @@ use Rattle.names.proofs.Lists.{length-list}
 use Rattle.newick.specs.declared.Reading.{Reading}
 use Rattle.newick.specs.declared.Derived.{Derived}
 use Rattle.newick.specs.declared.Derived.the-variants.{Taken, Refused}
-use Rattle.newick.specs.Read.{matrixFor, matrixFile, nameList, answered, read, outputAfter, returned, Reads}
+use Rattle.newick.specs.Read.{matrixFile, nameList, answered, read, outputAfter, returned, Reads}
 use Rattle.newick.specs.inner.Names.{namesIn}
 use Rattle.newick.specs.inner.Book.{Book, ledgerIn, Holds}
 use Rattle.newick.specs.inner.Found.{Found}

@@ -16,7 +16,7 @@ use Rattle.grammar.specs.inner.Standing.{piece}
 use Rattle.names.specs.Names.{nameBytes, namesBytes, listOf, listLength}
 use Rattle.names.proofs.Lists.{names-append, length-list}
 use Rattle.newick.specs.inner.Names.{Placed, namesIn}
-use Rattle.newick.proofs.Names.{length-piece}
+use Rattle.grammar.proofs.Standing.{piece-length}
 
 -- ---- records
 
@@ -26,7 +26,7 @@ pub name-flat : (text : List ℕ) (start size : ℕ) → start + size ≤ length
 unfolding recordBytes
 name-flat text start size l =
     let same : start + size - start ≡ size = omega arith in
-    rw (same, length-piece text start size l)
+    rw (same, piece-length text start size l)
 
 pub list-flat : (ns : List Bytes) → listOf ns ≡ namesBytes ns ++ openingOf (recordOf records.namesEnd)
 unfolding listOf
@@ -63,7 +63,7 @@ module _ (text starts sizes : List ℕ) where
 
 module _ {text starts sizes : List ℕ} {n : ℕ} (p : Placed text starts sizes n) (i : ℕ) (l : i < n) where
   pub length-next : listLength (namesIn text starts sizes (i + 1)) ≡ listLength (namesIn text starts sizes i) + (4 + getD sizes i 0)
-  length-next = rw (add-one i) (longer text starts sizes i ∙ rw (length-piece text (getD starts i 0) (getD sizes i 0) (p .inside i l)))
+  length-next = rw (add-one i) (longer text starts sizes i ∙ rw (piece-length text (getD starts i 0) (getD sizes i 0) (p .inside i l)))
 
   pub room : listLength (namesIn text starts sizes i) + (4 + getD sizes i 0) ≤ listLength (namesIn text starts sizes n)
   room = omega (arith, length-next, up-to text starts sizes (i + 1) n (omega arith))

@@ -7,8 +7,8 @@ use Prim.Native.Nat.{ℕ, zero, suc, _+_, _-_, _≤_, _<_}
 use native.Mathlib.Nat.{eq-or-lt-of-le}
 use native.Mathlib.Numerals.{add-one}
 use native.Mathlib.Omega.{arith}
-use lib.ListN.{length, getD, set, take, drop, length-drop, length-append, List·getD-append}
-use lib.Seq.{length-take-le, getD-at, getD-set-same, getD-set-other}
+use lib.ListN.{length, getD, set, take, drop, length-append, List·getD-append}
+use lib.Seq.{getD-at, getD-set-same, getD-set-other}
 use Rattle.grammar.specs.Columns.{Bytes}
 use Rattle.grammar.specs.Limits.{equal, number}
 use Rattle.grammar.specs.inner.Standing.{piece}
@@ -19,9 +19,6 @@ pub one-further : (P : ℕ → Type 0) {i : ℕ} → ((j : ℕ) → j < i → P 
 one-further P before here j l = ⊎-elim (λ e. subst P (sym e) here) (before j) (eq-or-lt-of-le (omega arith))
 
 -- ---- pieces
-
-pub length-piece : (text : List ℕ) (a k : ℕ) → a + k ≤ length text → length (piece text a k) ≡ k
-length-piece text a k l = length-take-le k (drop a text) (rw length-drop (omega arith))
 
 -- A part of a text that is lent from a place to another.
 pub whole-piece : (text : List ℕ) (a k : ℕ) → take (a + k - a) (drop a text) ≡ piece text a k

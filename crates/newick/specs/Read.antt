@@ -11,7 +11,6 @@ use Rattle.grammar.specs.Columns.{Bytes, Column}
 use Rattle.grammar.specs.Verdict.{Verdict, accepted, refused}
 use Rattle.grammar.specs.Clerk.{Tally, outcome}
 use Rattle.ledger.specs.Sets.{onesOf, zerosOf}
-use Rattle.matrix.specs.Matrix as matrix
 use Rattle.matrix.specs.Matrix.{Matrix, fileOf}
 use Rattle.names.specs.Names.{listOf}
 use Rattle.newick.specs.declared.Derived.{Derived}

@@ -1,7 +1,6 @@
 -- `newick::write_found` meets its contract.
 use borrow.Author.Needs.{needs}
 use native.Mathlib.Omega.{arith}
-use mathlib.Core.Path.{_≡_, sym}
 use Rattle.newick.proofs.Finding.{short-file, short-list, both-written}
 use Rattle.newick.proofs.write_found.Statement.{statement}
 use Rattle.newick.proofs.write_found.Tie as tie

@@ -1,7 +1,7 @@
 -- `newick::reader::read_text` meets its contract. The invariant: the reader stands between tokens, past the blanks, and all that was read is in its lists.
 use borrow.Author.Needs.{needs}
 use native.Mathlib.Omega.{arith}
-use mathlib.Core.Path.{_≡_, refl}
+use mathlib.Core.Path.{_≡_}
 use mathlib.Core.Bool.{false}
 use Prim.Native.Nat.{_-_, _≤_, _<_}
 use lib.ListN.{length, getD}

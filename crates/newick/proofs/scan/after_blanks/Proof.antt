@@ -1,6 +1,5 @@
 -- `newick::scan::after_blanks` meets its contract. The invariant: all bytes so far are blanks.
 use borrow.Author.Needs.{needs}
-use native.Mathlib.Omega.{arith}
 use mathlib.Core.Path.{sym, _∙_}
 use Prim.Native.Nat.{_-_}
 use lib.ListN.{length}

@@ -1,6 +1,5 @@
 -- `newick::scan::after_letters` meets its contract. The invariant: all bytes so far are letters.
 use borrow.Author.Needs.{needs}
-use native.Mathlib.Omega.{arith}
 use mathlib.Core.Path.{sym, _∙_}
 use Prim.Native.Nat.{_-_}
 use lib.ListN.{length}

@@ -1,8 +1,8 @@
 -- `newick::tokens::fill_zeros` meets its contract. The invariant: the 0-sets so far are the tree's other names.
 use borrow.Author.Needs.{needs}
 use native.Mathlib.Omega.{arith}
-use mathlib.Core.Path.{_≡_, sym}
-use mathlib.Core.List.{_++_, map, append-nil}
+use mathlib.Core.Path.{_≡_}
+use mathlib.Core.List.{_++_, map}
 use Prim.Native.Nat.{_-_, _≤_}
 use lib.ListN.{length, take, drop}
 use Rattle.taxa.specs.Sets.{_∖_}

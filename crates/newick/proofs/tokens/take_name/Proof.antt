@@ -1,6 +1,5 @@
 -- `newick::tokens::take_name` meets its contract.
 use borrow.Author.Needs.{needs}
-use native.Mathlib.Omega.{arith}
 use mathlib.Core.Path.{sym, _∙_}
 use Rattle.newick.proofs.Runs.{some-run}
 use Rattle.newick.proofs.Book.{name-17, name-18, name-19, name-known, name-new}

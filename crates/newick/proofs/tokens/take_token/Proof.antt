@@ -1,7 +1,7 @@
 -- `newick::tokens::take_token` meets its contract: each token by its own function.
 use borrow.Author.Needs.{needs}
 use mathlib.Core.Path.{refl, sym, _∙_}
-use Rattle.newick.specs.inner.Book.{Book, book}
+use Rattle.newick.specs.inner.Book.{book}
 use Rattle.newick.proofs.Book.{wrong-after, wrong-before}
 use Rattle.newick.proofs.tokens.take_token.Statement.{statement}
 use Rattle.newick.proofs.tokens.take_token.Tie as tie
