@@ -3,11 +3,12 @@ use mathlib.Core.Path.{_≡_, refl}
 use mathlib.Core.List.{List, []}
 use Prim.Native.Nat.{ℕ, _+_, _*_, _≤_, _<_}
 use native.Mathlib.Omega.{arith}
-use lib.ListN.{length, getD}
+use lib.ListN.{length, getD, take, replicate}
 use lib.Seq.{getD-take}
 use borrow.Author.Tests.{lt-ltb, le-ltb}
 use Rattle.record.specs.Bytes.{numberAt, over}
 use Rattle.record.specs.Records.{refused}
+use Rattle.record.proofs.Over.{length-over}
 use Rattle.record.specs.declared.Cursor.{Cursor}
 use Rattle.record.specs.declared.Refusal.{Refusal}
 use Rattle.record.specs.declared.Passed.the-variants.{At, Refused}
@@ -15,13 +16,14 @@ use Rattle.answer.specs.declared.Reading.{Reading}
 use Rattle.answer.specs.declared.Verdict.the-variants as verdict
 use Rattle.answer.specs.declared.Answer.{Answer}
 use Rattle.answer.specs.declared.Written.the-variants as written
-use Rattle.answer.specs.Content.{Content, contentIn, contentOf, answerOf, groupCount, flipCount, flipsStart, fileOf, lengthOf}
+use Rattle.answer.specs.Content.{Content, contentIn, contentOf, answerOf, groupCount, flipCount, flipsStart, taxaIn, fileOf, lengthOf}
 use Rattle.answer.specs.Rules.{floorOf}
 use Rattle.answer.specs.Tests.{judge, asGiven, flipsTest, tests}
 use Rattle.answer.specs.Reading.{listed, empty, fileTests, readTests, reading, Reads}
 use Rattle.answer.specs.Writing.{writing, writeTests, Writes}
+use Rattle.answer.proofs.Runs.{front-is}
 use Rattle.answer.proofs.Kept.{HeadKept, EntryKept, entry-keeps}
-use Rattle.answer.proofs.Walks.{walk-each, given-head, given-entry}
+use Rattle.answer.proofs.Walks.{length-taxa, walk-each, given-head, given-entry}
 use Rattle.answer.proofs.Stages.{staged}
 use Rattle.answer.proofs.Files.{head-leads, groups-lead, flips-lead, read-through}
 
@@ -65,6 +67,18 @@ laid file e =
     let (at₂, fits) = groups-lead file (r .head-passed) (r .groups-passed) in
     let (at₃, fits₃) = flips-lead file (r .flips-passed) fits in
     record { head-kept = kept; first-at = long; flips-at = omega arith; end-at = omega arith }
+
+-- The places of the value hold all groups, and the groups are the first of them.
+module _ (file : List ℕ) {a : Answer} (value : a ≡ answerOf (contentIn file)) where
+  pub groups-placed : groupCount file ≤ 63 → a .groups ≤ length (a .taxa)
+  groups-placed l =
+      let k = length-taxa file (groupCount file) in
+      let zeros : List ℕ = replicate 63 0 in
+      let r : length zeros ≡ 63 = refl in
+      rw value (omega (arith, length-over (taxaIn file (groupCount file)) 0 zeros (omega (arith, k, r)), r))
+
+  pub groups-first : take (a .groups) (a .taxa) ≡ contentIn file .taxa
+  groups-first = rw value (front-is (contentIn file .taxa) (replicate 63 0) (groupCount file) (length-taxa file (groupCount file)))
 
 -- ---- writing
 

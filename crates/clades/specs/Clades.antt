@@ -5,7 +5,8 @@ use Prim.Native.Nat.{ℕ, _≤_}
 use lib.ListN.{length}
 use Rattle.taxa.specs.Sets.{_∈_, _⊆_}
 use Rattle.grammar.specs.Text.{Name}
-use Rattle.grammar.specs.Columns.{Bytes}
+use Rattle.grammar.specs.Trees.{Tree}
+use Rattle.grammar.specs.Columns.{Bytes, clades}
 
 -- No two taxa of A have one name.
 pub record Differ (name : ℕ → Bytes) (A : ℕ) : Type 0 where
@@ -21,6 +22,19 @@ pub record NamesFor (name : ℕ → Bytes) (A : ℕ) : Type 0 where
 pub record Names (name : ℕ → Bytes) (S : ℕ) (ns : List Bytes) : Type 0 where
   pub has : {i : ℕ} → i ∈ S → List·Memᴰ (name i) ns
   pub only : {n : Bytes} → List·Memᴰ n ns → (i : ℕ) × i ∈ S × (n ≡ name i)
+
+-- Two lists have the same names.
+pub record SameNames (c d : List Bytes) : Type 0 where
+  pub there : {n : Bytes} → List·Memᴰ n c → List·Memᴰ n d
+  pub back : {n : Bytes} → List·Memᴰ n d → List·Memᴰ n c
+
+-- A set of names is a clade of the tree.
+abbrev pub IsClade : Tree → List Bytes → Type 0
+IsClade t c = (d : List Bytes) × List·Memᴰ d (clades t) × SameNames c d
+
+-- It is the names of a group.
+abbrev pub IsGroup : (ℕ → Bytes) → List ℕ → List Bytes → Type 0
+IsGroup name gs c = (G : ℕ) × List·Memᴰ G gs × Names name G c
 
 -- A list of names is that of a group inside S.
 abbrev pub OfGroup : (ℕ → Bytes) → List ℕ → ℕ → List Bytes → Type 0

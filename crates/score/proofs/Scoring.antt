@@ -1,15 +1,14 @@
 -- The operation by its rows: refused by the matrix, by the answer, or because they differ (15); else the score (`taken-row`).
 use mathlib.Core.Path.{_≡_, refl, ap, _∙_}
 use mathlib.Core.List.{List}
-use Prim.Native.Nat.{ℕ, zero, suc, _≤_, _<_}
+use Prim.Native.Nat.{ℕ, zero, suc, _<_}
 use native.Mathlib.Omega.{arith}
-use lib.ListN.{getD, length, replicate}
+use lib.ListN.{getD, replicate}
 use borrow.Author.Tests.{eq-eqb, ne-eqb}
 use Rattle.record.specs.Records.{refused}
 use Rattle.record.specs.declared.Cursor.{Cursor}
 use Rattle.record.specs.declared.Refusal.{Refusal}
 use Rattle.record.specs.declared.Passed.the-variants as passed
-use Rattle.record.proofs.Over.{length-over}
 use Rattle.matrix.specs.declared.Column.{Column}
 use Rattle.matrix.specs.declared.Checked.the-variants as checks
 use Rattle.matrix.specs.Matrix.{columnIn}
@@ -39,14 +38,6 @@ unfolding nodeFor
 padded-node μ file n k i c =
     nearest-same μ c (λ j. getD (padded (taxaIn file k)) j 0) (λ j. getD (taxaIn file k) j 0) k (nearestIn μ c leaf n (leaf 0)) (λ j l.
     at-front (taxaIn file k) (replicate 63 0) j (omega (arith, length-taxa file k))) i
-
--- The places of the value hold all groups.
-pub groups-placed : (answer : List ℕ) {a : Answer} → a ≡ answerOf (contentIn answer) → groupCount answer ≤ 63 → a .groups ≤ length (a .taxa)
-groups-placed answer e l =
-    let k = length-taxa answer (groupCount answer) in
-    let zeros : List ℕ = replicate 63 0 in
-    let r : length zeros ≡ 63 = refl in
-    rw e (omega (arith, length-over (taxaIn answer (groupCount answer)) 0 zeros (omega (arith, k, r)), r))
 
 same-node : (μ : ℕ → ℕ) (answer : List ℕ) (n : ℕ) {a : Answer} → a ≡ answerOf (contentIn answer) → a .n ≡ n → nodeFor μ n (a .taxa) (a .groups) ≡ nodeIn μ answer
 same-node μ answer n value e = rw (← e, value) (padded-node μ answer (contentIn answer .n) (groupCount answer))

@@ -1,29 +1,23 @@
 -- What an accepted answer and an accepted name list are: groups that any two are nested or disjoint, under all taxa (`groups`, `root`), and names for taxa
 -- (`names-for`).
-use mathlib.Core.Path.{_≡_, refl, sym, ap, _∙_}
+use mathlib.Core.Path.{_≡_, refl, sym, ap}
 use mathlib.Core.Logic.{_⊎_, inl, inr}
-use mathlib.Core.List.{List, [], _∷_, _++_, List·Memᴰ, List·Memᴰ·head, Memᴰ·append-right}
-use Prim.Native.Nat.{ℕ, zero, suc, _^_, _≤_, _<_}
+use mathlib.Core.List.{List, [], _∷_, List·Memᴰ, List·Memᴰ·head, Memᴰ·append-right}
+use Prim.Native.Nat.{ℕ, zero, suc, _^_, _<_}
 use native.Mathlib.Decide.{decLt}
 use native.Mathlib.Omega.{arith}
 use lib.ListN.{length, getD}
-use Rattle.taxa.specs.Sets.{all}
+use Rattle.taxa.specs.Sets.{_⊆_, all}
 use Rattle.taxa.proofs.Members.{⊆-≤, below, all-<, all-fits}
-use Rattle.record.specs.Bytes.{File}
-use Rattle.record.specs.declared.Cursor.{Cursor}
-use Rattle.record.specs.declared.Passed.the-variants.{At}
 use Rattle.record.proofs.Lists.{getD-in, in-getD}
-use Rattle.answer.specs.Content.{Content, contentIn}
+use Rattle.answer.specs.Content.{Content}
 use Rattle.answer.specs.Lawful.{Lawful}
-use Rattle.answer.specs.Reading.{fileTests}
-use Rattle.answer.proofs.Accepted.{taken-lawful}
 use Rattle.grammar.specs.Columns.{Bytes}
 use Rattle.grammar.specs.Limits.{Distinct, end, next}
 use Rattle.grammar.proofs.Numbering.{apart}
-use Rattle.clades.specs.Shows.{Laminar, Groups}
+use Rattle.clades.specs.Shows.{Groups}
 use Rattle.clades.specs.Clades.{NamesFor}
 use Rattle.names.specs.declared.Listed.the-variants.{Taken}
-use Rattle.names.specs.Names.{Legal}
 use Rattle.names.specs.Check.{namesIn, checked}
 use Rattle.names.proofs.Taken.{taken-legal, taken-count}
 use Rattle.spelling.specs.Write.{nameIn}
@@ -40,6 +34,9 @@ module _ {c : Content} (lawful : Lawful c) where
     fits = λ l. let (i, b, e) = place l in rw e (omega (arith, ⊆-≤ (g .known i b), all-fits 64 (lawful .head-lawful .few-taxa)));
     two = λ l. let (i, b, e) = place l in rw e (g .two-or-more i b);
   }
+
+  pub lawful-inside : {G : ℕ} → List·Memᴰ G (c .taxa) → G ⊆ all (c .n)
+  lawful-inside l = let (i, b, e) = place l in rw e (lawful .groups-lawful .known i b)
 
   -- "Where n is 2 or more the first is all n taxa"; where it is 1, that is a taxon alone.
   pub lawful-root : List·Memᴰ (all (c .n)) (c .taxa) ⊎ ((i : ℕ) × (all (c .n) ≡ 2 ^ i))

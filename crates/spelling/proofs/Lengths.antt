@@ -1,10 +1,10 @@
 -- How long the text of a tree is (`text-length`), and that none of an answer and a list is longer than the room that the code has for it (`text-short`).
-use mathlib.Core.Path.{_≡_, refl, sym, ap, _∙_}
+use mathlib.Core.Path.{_≡_, refl}
 use mathlib.Core.List.{List, [], _∷_, _++_, List·Memᴰ, List·Memᴰ·head, List·Memᴰ·tail}
-use Prim.Native.Nat.{ℕ, _+_, _*_, _^_, _≤_, _<_}
+use Prim.Native.Nat.{ℕ, _+_, _*_, _≤_}
 use native.Mathlib.Omega.{arith}
 use lib.ListN.{length, length-append}
-use Rattle.taxa.specs.Sets.{count, all}
+use Rattle.taxa.specs.Sets.{all}
 use Rattle.taxa.proofs.Members.{all-fits}
 use Rattle.taxa.proofs.Counts.{count-le}
 use Rattle.grammar.specs.Bytes.{right, comma, semicolon}

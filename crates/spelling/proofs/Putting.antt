@@ -18,7 +18,7 @@ pub left-start : (s : List ℕ) (at : ℕ) (old : List ℕ) → Left s at old s 
 left-start s at old = record { long = refl; same = refl; ends = refl }
 
 -- A byte right after a text.
-then-byte : (s : List ℕ) (v at end : ℕ) {old new : List ℕ} → Put s at old new end → end < length old → set new end v ≡ over (s ++ v ∷ []) at old
+pub then-byte : (s : List ℕ) (v at end : ℕ) {old new : List ℕ} → Put s at old new end → end < length old → set new end v ≡ over (s ++ v ∷ []) at old
 then-byte s v at end {old} {new} p l =
     let e = p .ends in
     let room = length-over s at old (omega arith) in

@@ -1,5 +1,5 @@
 -- The steps of the functions that spell a set S: a taxon alone, the bracket, and its parts one after the other.
-use mathlib.Core.Path.{_≡_, ap, _∙_}
+use mathlib.Core.Path.{_≡_, ap}
 use mathlib.Core.List.{List, _∷_, _++_}
 use Prim.Native.Nat.{ℕ, _+_, _^_, _≤_, _<_}
 use native.Mathlib.Omega.{arith}
@@ -11,8 +11,8 @@ use Rattle.clades.specs.Draw.{part}
 use Rattle.clades.proofs.Drawing.{Piece, piece-in, left-<, proper-<}
 use Rattle.spelling.specs.Write.{nameIn}
 use Rattle.spelling.specs.inner.Spell.{spelling, closing, partsText, Nameable, Spellable, Put}
-use Rattle.spelling.proofs.Texts.{taxon-text, group-text, parts-none, parts-text-next}
-use Rattle.spelling.proofs.Putting.{Left, left-room, left-next, left-end, after-byte}
+use Rattle.spelling.proofs.Texts.{taxon-text, group-text, parts-text-next}
+use Rattle.spelling.proofs.Putting.{Left, left-room, left-next, after-byte}
 
 module _ (gs list : List ℕ) {S : ℕ} (fits : S < 2 ^ 64) {at : ℕ} {old : List ℕ} where
   -- ---- a taxon alone

@@ -77,11 +77,11 @@ returned (Refused why) = record { number = why .number; place = why .place; size
 abbrev pub writeNumbers : List ℕ → List ℕ → ℕ → Returned
 writeNumbers answer list room = returned (spelled answer list room)
 
--- Both files were read.
-pub record Readable (answer list : List ℕ) (count : ℕ) : Type 0 where
+-- Both files are accepted, the answer with its n and the list with as many names.
+pub record Accepted (answer list : List ℕ) : Type 0 where
   pub here : Cursor
   pub passes : passed.At here ≡ fileTests answer
-  pub taken : lists.Taken count ≡ checked list
+  pub taken : lists.Taken (contentIn answer .n) ≡ checked list
 
 -- What writing promises of its answer and of the output at the end.
 pub record Spells (answer list out : List ℕ) (r : Spelled) (out′ : List ℕ) : Type 0 where

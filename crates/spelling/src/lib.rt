@@ -13,7 +13,7 @@ use record::writer::put_bytes;
 ghost use mathlib.Core.Path.{_≡_};
 ghost use lib.ListN.{length};
 ghost use Rattle.spelling.specs.Write as text;
-ghost use Rattle.spelling.specs.inner.Spell.{textFor, groupsOf, Tellable, Put};
+ghost use Rattle.spelling.specs.inner.Spell.{textFor, groupsOf, Readable, Tellable, Put};
 
 // No text is longer: 64 names of 32 bytes, 63 brackets that open and close, a comma after each name but the last, and the semicolon.
 pub const LONGEST: usize = 64 * 32 + 63 * 2 + 64;
@@ -39,7 +39,7 @@ fn spell_all(value: Answer, list: &[u8], room: &mut [u8]) -> usize
 // An answer and a list that were read: the number of names has to be the answer's. The text is made aside, so that its length is known before the first
 // byte of the output is written.
 fn write_read(answer: &[u8], list: &[u8], count: usize, out: &mut [u8]) -> Spelled
-    requires { ⌜ text.Readable (now answer) (now list) count ⌝ }
+    requires { ⌜ Readable (now answer) (now list) count ⌝ }
     ensures { λ r. ⌜
         (r ≡ text.afterBoth (now (answer .entry)) (now (list .entry)) count (length (now (out .entry))))
         × (now (out .exit) ≡ text.outputAfter (now (answer .entry)) (now (list .entry)) r (now (out .entry))) ⌝ }

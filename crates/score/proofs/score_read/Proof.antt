@@ -2,10 +2,10 @@
 use borrow.Author.Needs.{needs}
 use native.Mathlib.Omega.{arith}
 use Rattle.record.specs.Bytes.{File}
-use Rattle.answer.proofs.Outcomes.{Laid, laid}
+use Rattle.answer.proofs.Outcomes.{Laid, laid, groups-placed}
 use Rattle.matrix.proofs.Taken.{taken-legal, taken-length, taken-taxa, taken-columns, taken-multiplied}
 use Rattle.score.proofs.Light.{taken-light}
-use Rattle.score.proofs.Scoring.{groups-placed, other-taxa, other-columns, taken-row}
+use Rattle.score.proofs.Scoring.{other-taxa, other-columns, taken-row}
 use Rattle.score.proofs.score_read.Statement.{statement}
 use Rattle.score.proofs.score_read.Tie as tie
 

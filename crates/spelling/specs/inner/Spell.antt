@@ -7,12 +7,16 @@ use lib.Dec.{eqb}
 use lib.ListN.{length, take}
 use Rattle.taxa.specs.Sets.{all}
 use Rattle.record.specs.Bytes.{over}
+use Rattle.record.specs.declared.Cursor.{Cursor}
+use Rattle.record.specs.declared.Passed.the-variants as passed
 use Rattle.answer.specs.declared.Answer.{Answer}
+use Rattle.answer.specs.Reading.{fileTests}
 use Rattle.grammar.specs.Bytes.{byte, right, comma}
 use Rattle.grammar.specs.Trees.{Tree, one, tokens}
 use Rattle.grammar.specs.Writer.{plain, written}
 use Rattle.clades.specs.Draw.{parts, drawn}
-use Rattle.names.specs.Check.{namesIn}
+use Rattle.names.specs.declared.Listed.the-variants as lists
+use Rattle.names.specs.Check.{namesIn, checked}
 use Rattle.spelling.specs.Write.{nameIn}
 
 -- The text of a subtree.
@@ -59,6 +63,12 @@ textFor gs list n = written (one (drawn (nameIn list) gs (all n)))
 -- The groups of an answer's value.
 abbrev pub groupsOf : Answer → List ℕ
 groupsOf a = take (a .groups) (a .taxa)
+
+-- Both files were read.
+pub record Readable (answer list : List ℕ) (count : ℕ) : Type 0 where
+  pub here : Cursor
+  pub passes : passed.At here ≡ fileTests answer
+  pub taken : lists.Taken count ≡ checked list
 
 -- A value of an answer, names for its taxa, and room for its text.
 pub record Tellable (a : Answer) (list text : List ℕ) : Type 0 where

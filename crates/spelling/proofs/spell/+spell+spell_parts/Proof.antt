@@ -2,17 +2,16 @@
 -- The invariant of the parts: what is left to put comes to what all comes to.
 use Prim.Native.Nat.{ℕ, _+_, _*_, _^_, _≤_, _<_}
 use borrow.Author.Needs.{needs}
-use mathlib.Core.Path.{_≡_, refl, sym, ap, _∙_}
-use mathlib.Core.List.{List}
+use mathlib.Core.Path.{_≡_, ap, _∙_}
 use native.Mathlib.Omega.{arith}
 use lib.ListN.{length, length-set}
 use Rattle.taxa.specs.Sets.{_⊆_, count, low}
-use Rattle.taxa.proofs.Members.{⊆-refl, ⊆-trans, ∖-⊆, ⊆-≤, low-in, below}
+use Rattle.taxa.proofs.Members.{⊆-refl}
 use Rattle.clades.specs.Draw.{part}
 use Rattle.spelling.specs.inner.Spell.{spelling, partsText}
-use Rattle.spelling.proofs.Texts.{taxon-text, group-text, parts-none, parts-text-next}
+use Rattle.spelling.proofs.Texts.{group-text, parts-none}
 use Rattle.spelling.proofs.Steps.{name-able, name-put, parts-able, parts-put, part-falls, left-falls, part-able, part-room, part-put}
-use Rattle.spelling.proofs.Putting.{Left, left-start, left-room, left-next, left-end, after-byte}
+use Rattle.spelling.proofs.Putting.{Left, left-start, left-end}
 use borrow.Fn.Kinds.{In}
 use borrow.Fn.PlainCycle.{Measures, is, falls, and}
 use Rattle.spelling.proofs.spell.spell.Reads as spell
