@@ -34,13 +34,16 @@ use Rattle.names.specs.Check as names
 use Rattle.newick.specs.declared.Derived.{Derived}
 use Rattle.newick.specs.declared.Derived.the-variants as derived
 use Rattle.newick.specs.Read as newick
+use Rattle.spelling.specs.declared.Spelled.{Spelled}
+use Rattle.spelling.specs.declared.Spelled.the-variants as spelled
+use Rattle.spelling.specs.Write as spelling
 use Rattle.flipcut.specs.Packed.{packed, packedBuild, packedRead, packedRefusal, packedScore, packedSplit, packedWrite, resultAfter, valueAfter}
-use Rattle.flipcut.specs.Packed.{packedNames, packedTrees, lastPlace, told}
+use Rattle.flipcut.specs.Packed.{packedNames, packedText, packedTrees, lastPlace, told}
 use Rattle.flipcut.specs.Unpacked.{bits, numberIn, placeIn, resultIn, lentResult, valueIn}
 use Rattle.flipcut.specs.Unpacked.{unpacked, unpackedBuild, unpackedRead, unpackedScore, unpackedSplit, unpackedWrite}
-use Rattle.flipcut.specs.Unpacked.{unpackedNames, unpackedTrees}
+use Rattle.flipcut.specs.Unpacked.{unpackedNames, unpackedText, unpackedTrees}
 use Rattle.flipcut.proofs.Values.{value-put}
-use Rattle.flipcut.specs.inner.Fitting.{RefusalFits, CheckFits, BuildFits, SplitFits, ReadFits, WriteFits, ScoreFits, NamesFit, TreesFit}
+use Rattle.flipcut.specs.inner.Fitting.{RefusalFits, CheckFits, BuildFits, SplitFits, ReadFits, WriteFits, ScoreFits, NamesFit, TreesFit, TextFits}
 
 -- A refusal that fits.
 module _ (why : Refusal) (fits : RefusalFits why) where
@@ -182,7 +185,21 @@ trees-returns (derived.Refused why) fits near =
     let w = told why in
     λ i. record { number = number w fits i; place = (place w fits ∙ as-it-is near) i; matrix = no-result w fits 32 31 i; names = no-result w fits 0 32 i }
 
+pub text-returns : (a : Spelled) → TextFits a → spelling.returned a .place < 2 ^ 55 → unpackedText (packedText a) ≡ spelling.returned a
+text-returns (spelled.Length size) fits near =
+    let v = 2 ^ 32 * size in
+    let low : v < 2 ^ 63 = omega arith in
+    let first : bits v 32 31 ≡ size = omega arith in
+    λ i. record { number = no-number v low i; place = no-place v low i; size = (result v low 32 31 ∙ first) i }
+text-returns (spelled.Refused why) fits near =
+    let w = told why in
+    λ i. record { number = number w fits i; place = (place w fits ∙ as-it-is near) i; size = no-result w fits 32 31 i }
+
 -- The number, wherever the place is.
 pub trees-number : (a : Derived) → TreesFit a → numberIn (packedTrees a) ≡ newick.returned a .number
 trees-number (derived.Taken matrix list) (l, k) = no-number (list + 2 ^ 32 * matrix) (omega arith)
 trees-number (derived.Refused why) fits = number (told why) fits
+
+pub text-number : (a : Spelled) → TextFits a → numberIn (packedText a) ≡ spelling.returned a .number
+text-number (spelled.Length size) fits = no-number (2 ^ 32 * size) (omega arith)
+text-number (spelled.Refused why) fits = number (told why) fits

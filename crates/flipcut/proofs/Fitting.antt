@@ -30,7 +30,8 @@ use Rattle.tree.proofs.Places.{built-small, build-refused-small}
 use Rattle.score.specs.declared.Scored.{Scored}
 use Rattle.score.specs.declared.Scored.the-variants as scores
 use Rattle.score.specs.Operation.{scored}
-use Rattle.score.proofs.Places.{Small, score-small}
+use Rattle.score.proofs.Places as scoring
+use Rattle.score.proofs.Places.{score-small}
 use Rattle.names.specs.declared.Listed.{Listed}
 use Rattle.names.specs.declared.Listed.the-variants as lists
 use Rattle.names.specs.Check as names
@@ -41,7 +42,12 @@ use Rattle.newick.specs.Read as newick
 use Rattle.newick.proofs.Taken.{Comes, comes}
 use Rattle.newick.proofs.Taken as read
 use Rattle.newick.proofs.Promises.{room-needed}
-use Rattle.flipcut.specs.inner.Fitting.{CheckFits, BuildFits, SplitFits, ReadFits, WriteFits, ScoreFits, NamesFit, TreesFit}
+use Rattle.spelling.specs.declared.Spelled.{Spelled}
+use Rattle.spelling.specs.declared.Spelled.the-variants as texts
+use Rattle.spelling.specs.Write.{spelled, writeNumbers}
+use Rattle.spelling.specs.Write as spelling
+use Rattle.spelling.proofs.Places.{Small, spelled-small}
+use Rattle.flipcut.specs.inner.Fitting.{CheckFits, BuildFits, SplitFits, ReadFits, WriteFits, ScoreFits, NamesFit, TreesFit, TextFits}
 
 pub check-fits : {file : List ℕ} → File file → CheckFits (checked file)
 check-fits {file} f = go (checked file) refl
@@ -81,7 +87,7 @@ write-fits c listed room = go (writing c listed room) refl
 pub score-fits : {matrix : List ℕ} → File matrix → (answer : List ℕ) → ScoreFits (scored matrix answer)
 score-fits {matrix} f answer = go (scored matrix answer) (score-small f answer)
   where
-    go : (a : Scored) → Small a → ScoreFits a
+    go : (a : Scored) → scoring.Small a → ScoreFits a
     go (scores.Taken up down) small = small
     go (scores.Refused why) (near, few) = (omega arith, omega arith)
 
@@ -118,3 +124,18 @@ module _ (text : List ℕ) (room space : ℕ) where
       go (read.taken ts s fit) = omega arith
       go (read.short ts s lacks) = omega arith
       go (read.faulty number place f) = let (least, most, inside) = refused-known text f in omega arith
+
+module _ {answer : List ℕ} (f : File answer) (list : List ℕ) (room : ℕ) where
+  pub text-fits : TextFits (spelled answer list room)
+  text-fits = go (spelled answer list room) (spelled-small f list room)
+    where
+      go : (a : Spelled) → Small list a → TextFits a
+      go (texts.Length size) small = omega arith
+      go (texts.Refused why) (near, some, few) = (omega arith, omega arith)
+
+  pub text-near : length list < 2 ^ 55 → writeNumbers answer list room .place < 2 ^ 55
+  text-near short = go (spelled answer list room) (spelled-small f list room)
+    where
+      go : (a : Spelled) → Small list a → spelling.returned a .place < 2 ^ 55
+      go (texts.Length size) small = omega arith
+      go (texts.Refused why) (near, some, few) = omega arith

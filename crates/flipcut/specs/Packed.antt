@@ -32,6 +32,9 @@ use Rattle.names.specs.declared.Listed.the-variants as lists
 use Rattle.newick.specs.declared.Derived.{Derived}
 use Rattle.newick.specs.declared.Derived.the-variants as derived
 use Rattle.newick.specs.Read as newick
+use Rattle.spelling.specs.declared.Spelled.{Spelled}
+use Rattle.spelling.specs.declared.Spelled.the-variants as spelled
+use Rattle.spelling.specs.Write.{Spells}
 
 -- A refusal, packed.
 abbrev pub packedRefusal : Refusal → ℕ
@@ -84,6 +87,11 @@ abbrev pub packedTrees : Derived → ℕ
 packedTrees (derived.Taken matrix names) = names + 2 ^ 32 * matrix
 packedTrees (derived.Refused why) = packedRefusal (told why)
 
+-- What writing as Newick answers.
+abbrev pub packedText : Spelled → ℕ
+packedText (spelled.Length size) = 2 ^ 32 * size
+packedText (spelled.Refused why) = packedRefusal (told why)
+
 -- What a split's three lent numbers are at the end: its cost, its side A and t; on a refusal what they were.
 abbrev pub resultAfter : Divided → List ℕ → List ℕ
 resultAfter (splits.Taken cost A t) result = set (set (set result 0 cost) 1 A) 2 t
@@ -134,3 +142,7 @@ WritesPacked answer list out v out′ = Packs packedWrite (λ r. WritesEntries a
 -- What reading source trees promises C.
 abbrev pub ReadsNewickPacked : List ℕ → List ℕ → List ℕ → ℕ → List ℕ → List ℕ → Type 0
 ReadsNewickPacked text matrix names v matrix′ names′ = Packs packedTrees (λ r. newick.Reads text matrix names r matrix′ names′) v
+
+-- What writing as Newick promises C.
+abbrev pub WritesNewickPacked : List ℕ → List ℕ → List ℕ → ℕ → List ℕ → Type 0
+WritesNewickPacked answer names out v out′ = Packs packedText (λ r. Spells answer names out r out′) v

@@ -14,6 +14,7 @@ use Rattle.tree.specs.Build as build
 use Rattle.score.specs.Operation as score
 use Rattle.names.specs.Check as names
 use Rattle.newick.specs.Read as newick
+use Rattle.spelling.specs.Write as spelling
 use Rattle.flipcut.specs.Packed.{groupsAt, costsAt}
 
 -- The bits of a packed number from `low` on, `width` of them.
@@ -87,3 +88,7 @@ unpackedNames v = record { number = numberIn v; place = placeIn v; count = resul
 -- The number, the place and both lengths of packed source trees.
 abbrev pub unpackedTrees : ℕ → newick.Returned
 unpackedTrees v = record { number = numberIn v; place = placeIn v; matrix = resultIn v 32 31; names = resultIn v 0 32 }
+
+-- The number, the place and the length of a packed text.
+abbrev pub unpackedText : ℕ → spelling.Returned
+unpackedText v = record { number = numberIn v; place = placeIn v; size = resultIn v 32 31 }

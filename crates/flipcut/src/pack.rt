@@ -8,15 +8,16 @@ use names::Listed;
 use newick::Derived;
 use record::Refusal;
 use score::Scored;
+use spelling::Spelled;
 use split::Divided;
 use tree::Built;
 ghost use mathlib.Core.Path.{_≡_};
 ghost use Prim.Native.Nat.{min};
 ghost use Rattle.flipcut.specs.Packed.{packed, packedBuild, packedRead, packedRefusal, packedScore, packedSplit, packedWrite};
-ghost use Rattle.flipcut.specs.Packed.{packedNames, packedTrees, lastPlace, told, resultAfter, valueAfter, withGroups};
+ghost use Rattle.flipcut.specs.Packed.{packedNames, packedText, packedTrees, lastPlace, told, resultAfter, valueAfter, withGroups};
 ghost use Rattle.answer.specs.declared.Verdict.the-variants.{Taken};
 ghost use Rattle.flipcut.specs.inner.Fitting.{RefusalFits, CheckFits, BuildFits, SplitFits, ReadFits, WriteFits, ScoreFits};
-ghost use Rattle.flipcut.specs.inner.Fitting.{NamesFit, TreesFit};
+ghost use Rattle.flipcut.specs.inner.Fitting.{NamesFit, TreesFit, TextFits};
 
 const MOST_GROUPS: usize = 63;
 
@@ -173,5 +174,15 @@ pub fn read_newick(answer: Derived) -> u64
     match answer {
         Derived::Taken(matrix, names) => names as u64 + 0x1_0000_0000 * matrix as u64,
         Derived::Refused(why) => far_refusal(why),
+    }
+}
+
+pub fn write_newick(answer: Spelled) -> u64
+    requires { ⌜ TextFits answer ⌝ }
+    ensures { λ r. ⌜ r ≡ packedText answer ⌝ }
+{
+    match answer {
+        Spelled::Length(size) => 0x1_0000_0000 * size as u64,
+        Spelled::Refused(why) => far_refusal(why),
     }
 }

@@ -17,6 +17,8 @@ use Rattle.names.specs.declared.Listed.{Listed}
 use Rattle.names.specs.declared.Listed.the-variants as lists
 use Rattle.newick.specs.declared.Derived.{Derived}
 use Rattle.newick.specs.declared.Derived.the-variants as derived
+use Rattle.spelling.specs.declared.Spelled.{Spelled}
+use Rattle.spelling.specs.declared.Spelled.the-variants as spelled
 use Rattle.flipcut.specs.Packed.{told}
 
 -- A refusal.
@@ -62,3 +64,8 @@ NamesFit (lists.Refused why) = RefusalFits (told why)
 abbrev pub TreesFit : Derived → Type 0
 TreesFit (derived.Taken matrix names) = (matrix < 2 ^ 31) × (names < 2 ^ 32)
 TreesFit (derived.Refused why) = RefusalFits (told why)
+
+-- What writing as Newick answers.
+abbrev pub TextFits : Spelled → Type 0
+TextFits (spelled.Length size) = size < 2 ^ 31
+TextFits (spelled.Refused why) = RefusalFits (told why)
