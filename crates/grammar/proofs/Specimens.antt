@@ -13,7 +13,7 @@ use Rattle.grammar.specs.Verdict.{Verdict, accepted, refused, named, jud
 use Rattle.grammar.specs.Clerk.{Tally, wrongs, keep, outcome}
 
 -- The bytes of a text in ASCII.
-text : String → List ℕ
+unfoldable pub text : String → List ℕ
 text string.[] = []
 text (string._∷_ c s) = code c ∷ text s
 

@@ -11,9 +11,9 @@ use borrow.Author.Tests.{lt-ltb, le-ltb}
 use Rattle.taxa.specs.Sets.{_∈_, _∉_, _⊆_, _∪_, _∖_, within, all}
 use Rattle.taxa.proofs.Members.{none, in∪, in∖, ext, ∪-⊆, ⊆-refl, in-pow, pow-in, pow-⊆, in-all, within-⊆}
 use Rattle.grammar.specs.Columns.{Bytes}
-use Rattle.grammar.specs.Limits.{equal, isIn, seen, number, Distinct, next}
+use Rattle.grammar.specs.Limits.{equal, isIn, seen, number, Distinct}
 use Rattle.grammar.proofs.Lists.{distinct-latter}
-use Rattle.grammar.proofs.Numbering.{equal-refl, mem-isIn, isIn-mem, number-at, number-seen}
+use Rattle.grammar.proofs.Numbering.{equal-refl, mem-isIn, isIn-mem, number-at, number-seen, apart}
 use Rattle.ledger.specs.Sets.{setOf}
 
 -- Every name of ns is among ms.
@@ -142,10 +142,6 @@ bit-in {n} {taxa} {ns} h k = go (within (2 ^ number taxa n) (setOf taxa ns)) (is
     go false true e f = absurd (true≢false (sym (within-⊆ (2 ^ number taxa n) (setOf taxa ns) .1 (pow-⊆ (to-set taxa (isIn-mem n ns f)))) ∙ e))
 
 -- ---- what came since
-
-apart : {n : Bytes} {ns ms : List Bytes} → Distinct ns ms → List·Memᴰ n ns → List·Memᴰ n ms → ⊥
-apart {n} (next {m} {ns} {ms} e d) h (List·Memᴰ·head f) = true≢false (sym (mem-isIn (rw f at h)) ∙ e)
-apart {n} (next {m} {ns} {ms} e d) h (List·Memᴰ·tail g) = apart d (Memᴰ·append-left (m ∷ []) h) g
 
 since : {taxa : List Bytes} (ns ms : List Bytes) → Among taxa (ns ++ ms) → Distinct [] (ns ++ ms) → setOf taxa (ns ++ ms) ∖ setOf taxa ns ≡ setOf taxa ms
 since {taxa} ns ms k d = ext (record { sub = λ h. out (in∖ (setOf taxa (ns ++ ms)) (setOf taxa ns) .0 h) }) (record { sub = λ h. back (of-set taxa ms h) })

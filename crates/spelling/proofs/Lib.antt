@@ -6,3 +6,4 @@ pub mod Accepted
 pub mod Whole
 pub mod Writing
 pub mod Promises
+pub mod Specimens

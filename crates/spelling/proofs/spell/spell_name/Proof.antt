@@ -7,12 +7,12 @@ use native.Mathlib.Omega.{arith}
 use lib.ListN.{length, take, drop, length-take, length-drop}
 use Rattle.record.proofs.Over.{lends}
 use Rattle.names.specs.declared.Found.{Found}
-use Rattle.names.specs.Read.{Finds}
+use Rattle.names.specs.Read.{Locates}
 use Rattle.spelling.specs.Write.{nameIn}
 use Rattle.spelling.proofs.spell.spell_name.Statement.{statement}
 use Rattle.spelling.proofs.spell.spell_name.Tie as tie
 
-module _ {list : List ℕ} {taxon : ℕ} {r : Found} (f : Finds list taxon r) where
+module _ {list : List ℕ} {taxon : ℕ} {r : Found} (f : Locates list taxon r) where
   found-is : take (r .place + r .length - r .place) (drop (r .place) list) ≡ nameIn list taxon
   found-is = let e : r .place + r .length - r .place ≡ r .length = omega arith in ap (λ k. take k (drop (r .place) list)) e ∙ f .is
 
