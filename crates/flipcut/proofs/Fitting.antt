@@ -1,8 +1,8 @@
--- What every operation answers fits the bits that it is packed into, for any file. So do places in texts and name lists below 2 to the 55 bytes (`names-near`, `trees-near`,
--- `text-near`).
+-- What every operation answers fits the bits that it is packed into, for any file; places in a text or a name list do where it has fewer than 2 to the 55 bytes
+-- (`names-near`, `trees-near`, `text-near`).
 use mathlib.Core.Path.{_≡_, refl}
 use mathlib.Core.List.{List}
-use Prim.Native.Nat.{ℕ, _^_, _≤_, _<_}
+use Prim.Native.Nat.{ℕ, _^_, _<_}
 use native.Mathlib.Omega.{arith}
 use lib.ListN.{length}
 use Rattle.record.specs.Bytes.{File}

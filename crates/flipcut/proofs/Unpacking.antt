@@ -22,11 +22,15 @@ use Rattle.names.specs.Check as names
 use Rattle.newick.specs.Read as newick
 use Rattle.spelling.specs.Write as spelling
 use Rattle.flipcut.specs.inner.Fitting.{TreesFit, TextFits}
-use Rattle.flipcut.specs.Packed.{packed, packedScore, packedNames, BuildsPacked, SplitsPacked, ReadsPacked, WritesPacked, ReadsNewickPacked, WritesNewickPacked}
-use Rattle.flipcut.specs.Unpacked.{unpacked, unpackedBuild, unpackedRead, unpackedScore, unpackedSplit, unpackedWrite, unpackedNames, unpackedTrees, unpackedText, numberIn}
-use Rattle.flipcut.proofs.Fitting.{check-fits, build-fits, split-fits, read-fits, write-fits, score-fits, names-fit, names-near, trees-fit, trees-near, text-fits, text-near}
+use Rattle.flipcut.specs.Packed.{packed, packedScore, BuildsPacked, SplitsPacked, ReadsPacked, WritesPacked}
+use Rattle.flipcut.specs.Packed.{packedNames, ReadsNewickPacked, WritesNewickPacked}
+use Rattle.flipcut.specs.Unpacked.{unpacked, unpackedBuild, unpackedRead, unpackedScore, unpackedSplit, unpackedWrite}
+use Rattle.flipcut.specs.Unpacked.{numberIn, unpackedNames, unpackedText, unpackedTrees}
+use Rattle.flipcut.proofs.Fitting.{check-fits, build-fits, split-fits, read-fits, write-fits, score-fits}
+use Rattle.flipcut.proofs.Fitting.{names-fit, names-near, trees-fit, trees-near, text-fits, text-near}
 use Rattle.flipcut.proofs.Values.{read-long}
-use Rattle.flipcut.proofs.Bits.{check-returns, build-returns, split-returns, read-returns, write-returns, score-returns, names-returns, trees-returns, trees-number, text-returns, text-number}
+use Rattle.flipcut.proofs.Bits.{check-returns, build-returns, split-returns, read-returns, write-returns, score-returns}
+use Rattle.flipcut.proofs.Bits.{names-returns, trees-returns, trees-number, text-returns, text-number}
 
 pub check-unpacks : {file : List ℕ} → File file → unpacked (packed (checked file)) ≡ checkNumbers file
 check-unpacks {file} f = check-returns (checked file) (check-fits f)
@@ -61,16 +65,17 @@ score-unpacks {matrix} answer f = score-returns (scored matrix answer) (score-fi
 pub names-unpacks : {file : List ℕ} → File file → length file < 2 ^ 55 → unpackedNames (packedNames (names.checked file)) ≡ names.checkNumbers file
 names-unpacks {file} f small = names-returns (names.checked file) (names-fit f (omega arith)) (names-near file small)
 
-module _ {text matrix names matrix′ names′ : List ℕ} {v : ℕ} (p : ReadsNewickPacked text matrix names v matrix′ names′) where
+module _ {text matrix list matrix′ list′ : List ℕ} {v : ℕ} (p : ReadsNewickPacked text matrix list v matrix′ list′) where
   trees : TreesFit (p .answer)
-  trees = rw (p .promised .answers) (trees-fit text (length matrix) (length names))
+  trees = rw (p .promised .answers) (trees-fit text (length matrix) (length list))
 
-  pub trees-unpacks : length text < 2 ^ 55 → unpackedTrees v ≡ newick.readNumbers text (length matrix) (length names)
+  pub trees-unpacks : length text < 2 ^ 55 → unpackedTrees v ≡ newick.readNumbers text (length matrix) (length list)
   trees-unpacks small =
-      ap unpackedTrees (p .packs) ∙ trees-returns (p .answer) trees (rw (p .promised .numbers) (trees-near text (length matrix) (length names) small)) ∙ p .promised .numbers
+      let near = rw (p .promised .numbers) (trees-near text (length matrix) (length list) small) in
+      ap unpackedTrees (p .packs) ∙ trees-returns (p .answer) trees near ∙ p .promised .numbers
 
   -- The number, however long the text is.
-  pub trees-number-unpacks : numberIn v ≡ newick.readNumbers text (length matrix) (length names) .number
+  pub trees-number-unpacks : numberIn v ≡ newick.readNumbers text (length matrix) (length list) .number
   trees-number-unpacks = ap numberIn (p .packs) ∙ trees-number (p .answer) trees ∙ ap (λ (x : newick.Returned). x .number) (p .promised .numbers)
 
 module _ {answer list out out′ : List ℕ} {v : ℕ} (f : File answer) (p : WritesNewickPacked answer list out v out′) where
@@ -79,7 +84,8 @@ module _ {answer list out out′ : List ℕ} {v : ℕ} (f : File answer) (p : Wr
 
   pub text-unpacks : length list < 2 ^ 55 → unpackedText v ≡ spelling.writeNumbers answer list (length out)
   text-unpacks small =
-      ap unpackedText (p .packs) ∙ text-returns (p .answer) text (rw (p .promised .numbers) (text-near f list (length out) small)) ∙ p .promised .numbers
+      let near = rw (p .promised .numbers) (text-near f list (length out) small) in
+      ap unpackedText (p .packs) ∙ text-returns (p .answer) text near ∙ p .promised .numbers
 
   -- The number, however long the list is.
   pub text-number-unpacks : numberIn v ≡ spelling.writeNumbers answer list (length out) .number

@@ -5,7 +5,7 @@ use mathlib.Core.Bool.{Bool, true, false, cond}
 use mathlib.Core.List.{List}
 use Prim.Native.Nat.{ℕ, max, _≤_, _<_}
 use native.Mathlib.Omega.{arith}
-use lib.Dec.{ltb, eqb, lit<}
+use lib.Dec.{ltb, eqb}
 use lib.ListN.{length}
 use borrow.Author.Tests.{eqb-true}
 use Rattle.record.specs.Bytes.{File}
@@ -44,7 +44,8 @@ module _ {answer : List ℕ} (f : File answer) (list : List ℕ) (room : ℕ) wh
       size : ℕ
       size = length (textOf answer list)
 
-      go : (b : Bool) → eqb count (contentIn answer .n) ≡ b → Small list (cond b (cond (ltb room size) (Refused (refused 10 0)) (Length size)) (Refused (refused 15 0)))
+      go : (b : Bool) → eqb count (contentIn answer .n) ≡ b
+          → Small list (cond b (cond (ltb room size) (Refused (refused 10 0)) (Length size)) (Refused (refused 15 0)))
       go true e =
           let as-many = eqb-true count (contentIn answer .n) e in
           let short = never-longer f (record { here = here; passes = passes; taken = rw as-many at taken }) in
