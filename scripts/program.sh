@@ -34,6 +34,17 @@ judge_file() { # WORD
     [ -r "$1" ] || stop 2 "'$1' may not be read by you"
 }
 
+# The one word of a script that takes a file, or - for standard input; `file` is how it is told of.
+take_file() { # WORD...
+    count_words 1 1 "$@"
+    if [ "$1" = - ]; then
+        file='standard input'
+    else
+        judge_file "$1"
+        file="'$1'"
+    fi
+}
+
 # ---- proving
 
 clock() { printf '%d:%02d' $(($1 / 60)) $(($1 % 60)); }
@@ -104,6 +115,16 @@ archive() { # CRATE
 }
 
 # ---- printing
+
+# What a program says of a file, of which it reads so many bytes; ERRORS is 1 where what it tells on standard error counts too. It takes what it could
+# not read for the file's end: so the file is read here.
+said_of() { # PROGRAM WORD MOST [ERRORS]
+    local ended
+    head -c "$3" -- "$2" 2>/dev/null | "${run_rattle[@]}" "$top/target/bin/$1" 2>&"${4:-2}"
+    ended=("${PIPESTATUS[@]}")
+    [ "${ended[0]}" = 0 ] || stop 1 "$file could not be read"
+    [ "${ended[1]}" = 0 ] || stop 1 "the program ended early, with status ${ended[1]}"
+}
 
 # In words, why a file is refused: the row of this number in the table of docs/RULES.md.
 refusal_in_words() { # NUMBER
