@@ -1,7 +1,7 @@
 -- An answer that fits its bits comes back out of them: what is taken out of a packed refusal, and of a packed answer of each operation.
 use mathlib.Core.Path.{_≡_, refl, _∙_, ap}
 use mathlib.Core.List.{List, [], _∷_}
-use Prim.Native.Nat.{ℕ, _+_, _*_, _^_, _<_}
+use Prim.Native.Nat.{ℕ, _+_, _*_, _^_, _<_, min}
 use native.Mathlib.Omega.{arith}
 use lib.ListN.{length, getD, set}
 use borrow.Author.Tests.{eq-eqb, ne-eqb}
@@ -28,11 +28,22 @@ use Rattle.tree.specs.Build as build
 use Rattle.score.specs.declared.Scored.{Scored}
 use Rattle.score.specs.declared.Scored.the-variants as scores
 use Rattle.score.specs.Operation as score
+use Rattle.names.specs.declared.Listed.{Listed}
+use Rattle.names.specs.declared.Listed.the-variants as lists
+use Rattle.names.specs.Check as names
+use Rattle.newick.specs.declared.Derived.{Derived}
+use Rattle.newick.specs.declared.Derived.the-variants as derived
+use Rattle.newick.specs.Read as newick
+use Rattle.spelling.specs.declared.Spelled.{Spelled}
+use Rattle.spelling.specs.declared.Spelled.the-variants as spelled
+use Rattle.spelling.specs.Write as spelling
 use Rattle.flipcut.specs.Packed.{packed, packedBuild, packedRead, packedRefusal, packedScore, packedSplit, packedWrite, resultAfter, valueAfter}
+use Rattle.flipcut.specs.Packed.{packedNames, packedText, packedTrees, lastPlace, told}
 use Rattle.flipcut.specs.Unpacked.{bits, numberIn, placeIn, resultIn, lentResult, valueIn}
 use Rattle.flipcut.specs.Unpacked.{unpacked, unpackedBuild, unpackedRead, unpackedScore, unpackedSplit, unpackedWrite}
+use Rattle.flipcut.specs.Unpacked.{unpackedNames, unpackedText, unpackedTrees}
 use Rattle.flipcut.proofs.Values.{value-put}
-use Rattle.flipcut.specs.inner.Fitting.{RefusalFits, CheckFits, BuildFits, SplitFits, ReadFits, WriteFits, ScoreFits}
+use Rattle.flipcut.specs.inner.Fitting.{RefusalFits, CheckFits, BuildFits, SplitFits, ReadFits, WriteFits, ScoreFits, NamesFit, TreesFit, TextFits}
 
 -- A refusal that fits.
 module _ (why : Refusal) (fits : RefusalFits why) where
@@ -149,3 +160,46 @@ score-returns (scores.Taken up down) (l, k) =
     λ i. record { number = no-number v low i; place = no-place v low i; raises = (result v low 31 31 ∙ first) i; lowers = (result v low 0 31 ∙ second) i }
 score-returns (scores.Refused why) fits =
     λ i. record { number = number why fits i; place = place why fits i; raises = no-result why fits 31 31 i; lowers = no-result why fits 0 31 i }
+
+-- ---- the answers whose refusals are told
+
+as-it-is : {place : ℕ} → place < 2 ^ 55 → min place lastPlace ≡ place
+as-it-is near = omega arith
+
+pub names-returns : (a : Listed) → NamesFit a → names.returned a .place < 2 ^ 55 → unpackedNames (packedNames a) ≡ names.returned a
+names-returns (lists.Taken k) low near =
+    let first : bits k 0 63 ≡ k = omega arith in
+    λ i. record { number = no-number k low i; place = no-place k low i; count = (result k low 0 63 ∙ first) i }
+names-returns (lists.Refused why) fits near =
+    let w = told why in
+    λ i. record { number = number w fits i; place = (place w fits ∙ as-it-is near) i; count = no-result w fits 0 63 i }
+
+pub trees-returns : (a : Derived) → TreesFit a → newick.returned a .place < 2 ^ 55 → unpackedTrees (packedTrees a) ≡ newick.returned a
+trees-returns (derived.Taken matrix list) (l, k) near =
+    let v = list + 2 ^ 32 * matrix in
+    let low : v < 2 ^ 63 = omega arith in
+    let first : bits v 32 31 ≡ matrix = omega arith in
+    let second : bits v 0 32 ≡ list = omega arith in
+    λ i. record { number = no-number v low i; place = no-place v low i; matrix = (result v low 32 31 ∙ first) i; names = (result v low 0 32 ∙ second) i }
+trees-returns (derived.Refused why) fits near =
+    let w = told why in
+    λ i. record { number = number w fits i; place = (place w fits ∙ as-it-is near) i; matrix = no-result w fits 32 31 i; names = no-result w fits 0 32 i }
+
+pub text-returns : (a : Spelled) → TextFits a → spelling.returned a .place < 2 ^ 55 → unpackedText (packedText a) ≡ spelling.returned a
+text-returns (spelled.Length size) fits near =
+    let v = 2 ^ 32 * size in
+    let low : v < 2 ^ 63 = omega arith in
+    let first : bits v 32 31 ≡ size = omega arith in
+    λ i. record { number = no-number v low i; place = no-place v low i; size = (result v low 32 31 ∙ first) i }
+text-returns (spelled.Refused why) fits near =
+    let w = told why in
+    λ i. record { number = number w fits i; place = (place w fits ∙ as-it-is near) i; size = no-result w fits 32 31 i }
+
+-- The number, wherever the place is.
+pub trees-number : (a : Derived) → TreesFit a → numberIn (packedTrees a) ≡ newick.returned a .number
+trees-number (derived.Taken matrix list) (l, k) = no-number (list + 2 ^ 32 * matrix) (omega arith)
+trees-number (derived.Refused why) fits = number (told why) fits
+
+pub text-number : (a : Spelled) → TextFits a → numberIn (packedText a) ≡ spelling.returned a .number
+text-number (spelled.Length size) fits = no-number (2 ^ 32 * size) (omega arith)
+text-number (spelled.Refused why) fits = number (told why) fits

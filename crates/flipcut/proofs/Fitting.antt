@@ -1,8 +1,10 @@
--- What every operation answers fits the bits that it is packed into, for any file.
+-- What every operation answers fits the bits that it is packed into, for any file; places in a text or a name list do where it has fewer than 2 to the 55 bytes
+-- (`names-near`, `trees-near`, `text-near`).
 use mathlib.Core.Path.{_≡_, refl}
 use mathlib.Core.List.{List}
-use Prim.Native.Nat.{ℕ}
+use Prim.Native.Nat.{ℕ, _^_, _<_}
 use native.Mathlib.Omega.{arith}
+use lib.ListN.{length}
 use Rattle.record.specs.Bytes.{File}
 use Rattle.matrix.specs.declared.Checked.{Checked}
 use Rattle.matrix.specs.declared.Checked.the-variants as checks
@@ -28,8 +30,24 @@ use Rattle.tree.proofs.Places.{built-small, build-refused-small}
 use Rattle.score.specs.declared.Scored.{Scored}
 use Rattle.score.specs.declared.Scored.the-variants as scores
 use Rattle.score.specs.Operation.{scored}
-use Rattle.score.proofs.Places.{Small, score-small}
-use Rattle.flipcut.specs.inner.Fitting.{CheckFits, BuildFits, SplitFits, ReadFits, WriteFits, ScoreFits}
+use Rattle.score.proofs.Places as scoring
+use Rattle.score.proofs.Places.{score-small}
+use Rattle.names.specs.declared.Listed.{Listed}
+use Rattle.names.specs.declared.Listed.the-variants as lists
+use Rattle.names.specs.Check as names
+use Rattle.names.proofs.Places.{refusal-there, taken-few}
+use Rattle.grammar.proofs.Faults.{refused-known}
+use Rattle.newick.specs.declared.Derived.{Derived}
+use Rattle.newick.specs.Read as newick
+use Rattle.newick.proofs.Taken.{Comes, comes}
+use Rattle.newick.proofs.Taken as read
+use Rattle.newick.proofs.Promises.{room-needed}
+use Rattle.spelling.specs.declared.Spelled.{Spelled}
+use Rattle.spelling.specs.declared.Spelled.the-variants as texts
+use Rattle.spelling.specs.Write.{spelled, writeNumbers}
+use Rattle.spelling.specs.Write as spelling
+use Rattle.spelling.proofs.Places.{Small, spelled-small}
+use Rattle.flipcut.specs.inner.Fitting.{CheckFits, BuildFits, SplitFits, ReadFits, WriteFits, ScoreFits, NamesFit, TreesFit, TextFits}
 
 pub check-fits : {file : List ℕ} → File file → CheckFits (checked file)
 check-fits {file} f = go (checked file) refl
@@ -69,6 +87,55 @@ write-fits c listed room = go (writing c listed room) refl
 pub score-fits : {matrix : List ℕ} → File matrix → (answer : List ℕ) → ScoreFits (scored matrix answer)
 score-fits {matrix} f answer = go (scored matrix answer) (score-small f answer)
   where
-    go : (a : Scored) → Small a → ScoreFits a
+    go : (a : Scored) → scoring.Small a → ScoreFits a
     go (scores.Taken up down) small = small
     go (scores.Refused why) (near, few) = (omega arith, omega arith)
+
+-- ---- name lists
+
+pub names-fit : {file : List ℕ} → File file → length file < 2 ^ 63 → NamesFit (names.checked file)
+names-fit {file} f long = go (names.checked file) refl
+  where
+    go : (a : Listed) → a ≡ names.checked file → NamesFit a
+    go (lists.Taken count) e = let few = taken-few f e in omega arith
+    go (lists.Refused why) e = let (near, some, few) = refusal-there file e in (omega arith, omega arith)
+
+pub names-near : (file : List ℕ) → length file < 2 ^ 55 → names.checkNumbers file .place < 2 ^ 55
+names-near file small = go (names.checked file) refl
+  where
+    go : (a : Listed) → a ≡ names.checked file → names.returned a .place < 2 ^ 55
+    go (lists.Taken count) e = omega arith
+    go (lists.Refused why) e = let (near, some, few) = refusal-there file e in omega arith
+
+-- ---- Newick text
+module _ (text : List ℕ) (room space : ℕ) where
+  pub trees-fit : TreesFit (newick.read text room space)
+  trees-fit = go (comes text room space)
+    where
+      go : {r : Derived} → Comes text room space r → TreesFit r
+      go (read.taken ts s fit) = let (sum, matrix, rest, list) = room-needed s in (omega arith, omega arith)
+      go (read.short ts s lacks) = (omega arith, omega arith)
+      go (read.faulty number place f) = let (least, most, inside) = refused-known text f in (omega arith, omega arith)
+
+  pub trees-near : length text < 2 ^ 55 → newick.readNumbers text room space .place < 2 ^ 55
+  trees-near small = go (comes text room space)
+    where
+      go : {r : Derived} → Comes text room space r → newick.returned r .place < 2 ^ 55
+      go (read.taken ts s fit) = omega arith
+      go (read.short ts s lacks) = omega arith
+      go (read.faulty number place f) = let (least, most, inside) = refused-known text f in omega arith
+
+module _ {answer : List ℕ} (f : File answer) (list : List ℕ) (room : ℕ) where
+  pub text-fits : TextFits (spelled answer list room)
+  text-fits = go (spelled answer list room) (spelled-small f list room)
+    where
+      go : (a : Spelled) → Small list a → TextFits a
+      go (texts.Length size) small = omega arith
+      go (texts.Refused why) (near, some, few) = (omega arith, omega arith)
+
+  pub text-near : length list < 2 ^ 55 → writeNumbers answer list room .place < 2 ^ 55
+  text-near short = go (spelled answer list room) (spelled-small f list room)
+    where
+      go : (a : Spelled) → Small list a → spelling.returned a .place < 2 ^ 55
+      go (texts.Length size) small = omega arith
+      go (texts.Refused why) (near, some, few) = omega arith

@@ -1,10 +1,11 @@
 -- The packed numbers that C gets, one of 64 bits for each call. Bit 63 says whether the call was refused. If it was, bits 0 to 7 are the refusal's number
 -- and bits 8 to 62 its place. If not: of the check, n is in bits 0 to 15 and m in bits 16 to 31; of the build, the total is in bits 0 to 31 and the length
--- written in bits 32 to 62, where writing has it too; of the score, lowers are in bits 0 to 30 and raises in bits 31 to 61. What the split and
--- the reading find does not fit, and is put into numbers that are lent for it.
+-- written in bits 32 to 62, where every writing has it; of the score, lowers are in bits 0 to 30 and raises in bits 31 to 61. Of source trees the matrix file's
+-- length is in bits 32 to 62 and the name list's in bits 0 to 31; of the check of a name list, bits 0 to 62 are how many names there are. What the split and
+-- the reading of an answer find does not fit, and is put into numbers that are lent for it.
 use mathlib.Core.Path.{_≡_}
 use mathlib.Core.List.{List}
-use Prim.Native.Nat.{ℕ, zero, suc, _+_, _*_, _^_}
+use Prim.Native.Nat.{ℕ, zero, suc, _+_, _-_, _*_, _^_, min}
 use lib.IntN.{ℤ}
 use lib.ListN.{getD, set}
 use Rattle.record.specs.declared.Refusal.{Refusal}
@@ -26,6 +27,14 @@ use Rattle.tree.specs.declared.Built.the-variants as builds
 use Rattle.tree.specs.Build.{Builds}
 use Rattle.score.specs.declared.Scored.{Scored}
 use Rattle.score.specs.declared.Scored.the-variants as scores
+use Rattle.names.specs.declared.Listed.{Listed}
+use Rattle.names.specs.declared.Listed.the-variants as lists
+use Rattle.newick.specs.declared.Derived.{Derived}
+use Rattle.newick.specs.declared.Derived.the-variants as derived
+use Rattle.newick.specs.Read as newick
+use Rattle.spelling.specs.declared.Spelled.{Spelled}
+use Rattle.spelling.specs.declared.Spelled.the-variants as spelled
+use Rattle.spelling.specs.Write.{Spells}
 
 -- A refusal, packed.
 abbrev pub packedRefusal : Refusal → ℕ
@@ -60,6 +69,28 @@ packedWrite (written.Refused why) = packedRefusal why
 abbrev pub packedScore : Scored → ℕ
 packedScore (scores.Taken raises lowers) = lowers .0 + 2 ^ 31 * raises .0
 packedScore (scores.Refused why) = packedRefusal why
+
+-- No bound is set to a text or a name list. A refusal so far out that 55 bits cannot hold its place is told at the last place that they can.
+abbrev pub lastPlace : ℕ
+lastPlace = 2 ^ 55 - 1
+
+abbrev pub told : Refusal → Refusal
+told why = record { number = why .number; place = min (why .place) lastPlace }
+
+-- What the check of a name list answers.
+abbrev pub packedNames : Listed → ℕ
+packedNames (lists.Taken count) = count
+packedNames (lists.Refused why) = packedRefusal (told why)
+
+-- What reading source trees answers.
+abbrev pub packedTrees : Derived → ℕ
+packedTrees (derived.Taken matrix names) = names + 2 ^ 32 * matrix
+packedTrees (derived.Refused why) = packedRefusal (told why)
+
+-- What writing as Newick answers.
+abbrev pub packedText : Spelled → ℕ
+packedText (spelled.Length size) = 2 ^ 32 * size
+packedText (spelled.Refused why) = packedRefusal (told why)
 
 -- What a split's three lent numbers are at the end: its cost, its side A and t; on a refusal what they were.
 abbrev pub resultAfter : Divided → List ℕ → List ℕ
@@ -107,3 +138,11 @@ ReadsPacked file list result v list′ result′ =
 -- What writing promises C.
 abbrev pub WritesPacked : Answer → List Flip → List ℕ → ℕ → List ℕ → Type 0
 WritesPacked answer list out v out′ = Packs packedWrite (λ r. WritesEntries answer list out r out′) v
+
+-- What reading source trees promises C.
+abbrev pub ReadsNewickPacked : List ℕ → List ℕ → List ℕ → ℕ → List ℕ → List ℕ → Type 0
+ReadsNewickPacked text matrix names v matrix′ names′ = Packs packedTrees (λ r. newick.Reads text matrix names r matrix′ names′) v
+
+-- What writing as Newick promises C.
+abbrev pub WritesNewickPacked : List ℕ → List ℕ → List ℕ → ℕ → List ℕ → Type 0
+WritesNewickPacked answer names out v out′ = Packs packedText (λ r. Spells answer names out r out′) v

@@ -12,6 +12,9 @@ use Rattle.answer.specs.Writing as writing
 use Rattle.split.specs.Operation as split
 use Rattle.tree.specs.Build as build
 use Rattle.score.specs.Operation as score
+use Rattle.names.specs.Check as names
+use Rattle.newick.specs.Read as newick
+use Rattle.spelling.specs.Write as spelling
 use Rattle.flipcut.specs.Packed.{groupsAt, costsAt}
 
 -- The bits of a packed number from `low` on, `width` of them.
@@ -77,3 +80,15 @@ unpackedWrite v = record { number = numberIn v; place = placeIn v; size = result
 -- The number, the place, raises and lowers of a packed score.
 abbrev pub unpackedScore : ℕ → score.Returned
 unpackedScore v = record { number = numberIn v; place = placeIn v; raises = resultIn v 31 31; lowers = resultIn v 0 31 }
+
+-- The number, the place and how many names of a packed check of a name list.
+abbrev pub unpackedNames : ℕ → names.Returned
+unpackedNames v = record { number = numberIn v; place = placeIn v; count = resultIn v 0 63 }
+
+-- The number, the place and both lengths of packed source trees.
+abbrev pub unpackedTrees : ℕ → newick.Returned
+unpackedTrees v = record { number = numberIn v; place = placeIn v; matrix = resultIn v 32 31; names = resultIn v 0 32 }
+
+-- The number, the place and the length of a packed text.
+abbrev pub unpackedText : ℕ → spelling.Returned
+unpackedText v = record { number = numberIn v; place = placeIn v; size = resultIn v 32 31 }

@@ -4,15 +4,20 @@ use answer::Reading;
 use answer::Verdict;
 use answer::Written;
 use matrix::Checked;
+use names::Listed;
+use newick::Derived;
 use record::Refusal;
 use score::Scored;
+use spelling::Spelled;
 use split::Divided;
 use tree::Built;
 ghost use mathlib.Core.Path.{_≡_};
+ghost use Prim.Native.Nat.{min};
 ghost use Rattle.flipcut.specs.Packed.{packed, packedBuild, packedRead, packedRefusal, packedScore, packedSplit, packedWrite};
-ghost use Rattle.flipcut.specs.Packed.{resultAfter, valueAfter, withGroups};
+ghost use Rattle.flipcut.specs.Packed.{packedNames, packedText, packedTrees, lastPlace, told, resultAfter, valueAfter, withGroups};
 ghost use Rattle.answer.specs.declared.Verdict.the-variants.{Taken};
 ghost use Rattle.flipcut.specs.inner.Fitting.{RefusalFits, CheckFits, BuildFits, SplitFits, ReadFits, WriteFits, ScoreFits};
+ghost use Rattle.flipcut.specs.inner.Fitting.{NamesFit, TreesFit, TextFits};
 
 const MOST_GROUPS: usize = 63;
 
@@ -25,6 +30,9 @@ const GROUPS_AT: usize = 5;
 const COSTS_AT: usize = GROUPS_AT + MOST_GROUPS;
 
 pub const READ_RESULTS: usize = COSTS_AT + MOST_GROUPS;
+
+// A place has 55 bits, so this is the last that can be told.
+const LAST_PLACE: usize = 0x7f_ffff_ffff_ffff;
 
 fn refusal(why: Refusal) -> u64
     requires { ⌜ RefusalFits why ⌝ }
@@ -126,5 +134,55 @@ pub fn score(answer: Scored) -> u64
     match answer {
         Scored::Taken(raises, lowers) => lowers.0 as u64 + 0x8000_0000 * raises.0 as u64,
         Scored::Refused(why) => refusal(why),
+    }
+}
+
+// The place itself, or the last that can be told.
+fn near(place: usize) -> usize
+    ensures { λ r. ⌜ r ≡ min place lastPlace ⌝ }
+{
+    if place < LAST_PLACE {
+        return place;
+    }
+    LAST_PLACE
+}
+
+// A refusal in a text or a name list: no bound is set to these, as there is to a matrix or an answer.
+fn far_refusal(why: Refusal) -> u64
+    ensures { λ r. ⌜ r ≡ packedRefusal (told why) ⌝ }
+{
+    refusal(Refusal {
+        number: why.number,
+        place: near(why.place),
+    })
+}
+
+pub fn check_names(answer: Listed) -> u64
+    requires { ⌜ NamesFit answer ⌝ }
+    ensures { λ r. ⌜ r ≡ packedNames answer ⌝ }
+{
+    match answer {
+        Listed::Taken(count) => count as u64,
+        Listed::Refused(why) => far_refusal(why),
+    }
+}
+
+pub fn read_newick(answer: Derived) -> u64
+    requires { ⌜ TreesFit answer ⌝ }
+    ensures { λ r. ⌜ r ≡ packedTrees answer ⌝ }
+{
+    match answer {
+        Derived::Taken(matrix, names) => names as u64 + 0x1_0000_0000 * matrix as u64,
+        Derived::Refused(why) => far_refusal(why),
+    }
+}
+
+pub fn write_newick(answer: Spelled) -> u64
+    requires { ⌜ TextFits answer ⌝ }
+    ensures { λ r. ⌜ r ≡ packedText answer ⌝ }
+{
+    match answer {
+        Spelled::Length(size) => 0x1_0000_0000 * size as u64,
+        Spelled::Refused(why) => far_refusal(why),
     }
 }

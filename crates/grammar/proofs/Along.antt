@@ -1,15 +1,15 @@
 -- What the reader has read at any time spells what it has built (`Sofar`), until it stops (`stops`).
-use mathlib.Core.Path.{_≡_, refl, sym, ap, _∙_, subst}
+use mathlib.Core.Path.{_≡_, refl, _∙_, subst}
 use mathlib.Core.List.{List, [], _∷_, _++_, append-assoc, append-nil}
 use mathlib.Core.Option.{Option, none, some}
-use Prim.Native.Nat.{ℕ, suc, _+_}
+use Prim.Native.Nat.{ℕ}
 use native.Mathlib.Numerals.{add-one}
 use lib.ListN.{length, length-append}
 use Rattle.grammar.specs.Bytes.{Sign, Mark, mark, left, right, comma, semicolon, blank, letter, wrong}
 use Rattle.grammar.specs.Bytes as bytes
-use Rattle.grammar.specs.Trees.{Tree, Trees, leaf, inner, one, then, Token, word, sign, tokens, commas, file}
-use Rattle.grammar.specs.Text.{Name, only, more, Spells, end, gap, then-sign, then-word, Newick}
-use Rattle.grammar.specs.Reader.{Done, State, before, naming, after, ended, step, Outcome, trees, refused, ending, run, start, read}
+use Rattle.grammar.specs.Trees.{Tree, leaf, Token, word, sign, tokens, commas, file}
+use Rattle.grammar.specs.Text.{Name, only, more, Spells, gap, then-sign, then-word}
+use Rattle.grammar.specs.Reader.{Done, State, before, naming, after, ended, step, refused, run, start, read}
 use Rattle.grammar.proofs.Complete.{went}
 
 -- ---- the tokens of what is built

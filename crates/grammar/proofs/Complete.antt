@@ -1,9 +1,9 @@
 -- Every text that spells trees is read to them (`complete`), so that it spells no others (`unique`).
-use mathlib.Core.Path.{_≡_, refl, sym, ap, _∙_}
+use mathlib.Core.Path.{_≡_, refl, _∙_}
 use mathlib.Core.List.{List, [], _∷_, _++_, append-assoc}
-use mathlib.Core.Option.{Option, none, some}
+use mathlib.Core.Option.{none, some}
 use Prim.Native.Nat.{ℕ, suc}
-use Rattle.grammar.specs.Bytes.{Sign, Mark, mark, left, right, comma, semicolon, blank, letter}
+use Rattle.grammar.specs.Bytes.{Sign, Mark, mark, left, right, comma, semicolon, blank}
 use Rattle.grammar.specs.Bytes as bytes
 use Rattle.grammar.specs.Trees.{Tree, Trees, leaf, inner, one, then, Token, word, sign, tokens, commas, file}
 use Rattle.grammar.specs.Text.{Name, only, more, Spells, end, gap, then-sign, then-word, Newick}

@@ -1,14 +1,12 @@
 -- A text has one place for refusal 16 at most (`one-place`), and is refused there (`refused-there`).
-use mathlib.Core.Path.{_≡_, refl, sym, ap, _∙_, subst}
+use mathlib.Core.Path.{_≡_, refl, ap, subst}
 use mathlib.Core.List.{List, [], _∷_, _++_, append-assoc}
-use Prim.Native.Nat.{ℕ, zero, suc, _+_, _≤_, _<_}
+use Prim.Native.Nat.{ℕ, zero, suc, _≤_, _<_}
 use native.Mathlib.Decide.{decLt}
 use native.Mathlib.Nat.{le-of-suc-le-suc}
 use native.Mathlib.Omega.{arith}
-use lib.ListN.{length, length-append, take, drop}
+use lib.ListN.{length, length-append, take}
 use lib.Seq.{take-at, take-all}
-use Rattle.grammar.specs.Trees.{Trees}
-use Rattle.grammar.specs.Text.{Newick}
 use Rattle.grammar.specs.Reader.{Outcome, trees, refused, read}
 use Rattle.grammar.specs.Places.{Grammatical, Starts, Fault, at-byte, at-end}
 use Rattle.grammar.proofs.Promises.{sound, place}

@@ -1,18 +1,18 @@
 -- Reading refuses the first of the faults, and accepts where there is none (`first-fault`).
-use mathlib.Core.Path.{_≡_, refl, sym, ap, _∙_, subst}
+use mathlib.Core.Path.{_≡_, refl, subst}
 use mathlib.Core.Bool.{Bool, true, false, cond}
 use mathlib.Core.List.{List, [], _∷_, _++_}
 use mathlib.Core.Option.{Option, none, some}
-use Prim.Native.Nat.{ℕ, suc, _+_, _-_, _≤_}
+use Prim.Native.Nat.{ℕ, suc, _-_, _≤_}
 use native.Mathlib.Omega.{arith}
 use lib.Dec.{ltb, eqb}
 use lib.ListN.{length, length-append}
 use borrow.Author.Tests.{eqb-false, le-ltb}
 use Rattle.grammar.specs.Bytes.{Sign, Mark, mark, left, right, comma, semicolon, blank, letter, wrong}
 use Rattle.grammar.specs.Bytes as bytes
-use Rattle.grammar.specs.Trees.{Tree, Trees, leaf, Token, word, sign}
-use Rattle.grammar.specs.Reader.{Done, State, before, naming, after, ended, step, start, Outcome, trees, ending, run, read}
-use Rattle.grammar.specs.Verdict.{Check, goes, fails, noted, Next, on, stop, Verdict, accepted, refused, tooLong, named, first, stepped, signed, judge, settled, verdict}
+use Rattle.grammar.specs.Trees.{Trees, leaf, Token, word, sign}
+use Rattle.grammar.specs.Reader.{State, before, naming, after, ended, step, start, Outcome, trees, ending, run, read}
+use Rattle.grammar.specs.Verdict.{Check, goes, fails, noted, Next, on, stop, Verdict, accepted, refused, tooLong, named, stepped, signed, judge, settled, verdict}
 use Rattle.grammar.specs.Faults.{Refusal, at, endFaults, nameFaults, kept, ending-there, itself, then-kept, faults}
 use Rattle.grammar.proofs.Along.{If}
 use Rattle.grammar.proofs.Order.{Plain, ended-plain, Numbers, end, next}

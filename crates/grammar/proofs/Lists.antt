@@ -1,10 +1,10 @@
 -- Lists of names: taxa by first appearance, and names that differ.
-use mathlib.Core.Path.{_≡_, refl, sym, _∙_}
+use mathlib.Core.Path.{_≡_, refl}
 use mathlib.Core.Bool.{Bool, true, false, cond}
 use mathlib.Core.List.{List, [], _∷_, _++_, append-assoc, append-nil}
-use Prim.Native.Nat.{ℕ, suc, _+_, _≤_}
+use Prim.Native.Nat.{suc, _+_, _≤_}
 use native.Mathlib.Omega.{arith}
-use lib.ListN.{length, length-append, set, drop}
+use lib.ListN.{length, length-append, set}
 use Rattle.grammar.specs.Columns.{Bytes}
 use Rattle.grammar.specs.Limits.{isIn, seen, Distinct, end, next}
 

@@ -1,5 +1,5 @@
 -- The faults of a text stand by place, then by number (`rising`), and reading refuses the first of them (`first-fault`).
-use mathlib.Core.Path.{_≡_, refl, sym, ap, _∙_, subst}
+use mathlib.Core.Path.{_≡_, refl, subst}
 use mathlib.Core.Bool.{Bool, true, false, cond}
 use mathlib.Core.List.{List, [], _∷_, _++_}
 use mathlib.Core.Option.{Option, none, some}
@@ -8,24 +8,32 @@ use native.Mathlib.Decide.{decLt}
 use native.Mathlib.Omega.{arith}
 use lib.Dec.{ltb, eqb}
 use lib.ListN.{length, length-append}
-use borrow.Author.Tests.{eqb-true, eqb-false, eq-eqb, ne-eqb, lt-ltb, le-ltb, ltb-true, ltb-false}
+use borrow.Author.Tests.{eqb-true, eqb-false, lt-ltb, le-ltb}
 use Rattle.grammar.specs.Bytes.{Sign, Mark, mark, left, right, comma, semicolon, blank, letter, wrong}
 use Rattle.grammar.specs.Bytes as bytes
-use Rattle.grammar.specs.Trees.{Tree, Trees, leaf, Token, word, sign}
-use Rattle.grammar.specs.Reader.{Done, State, before, naming, after, ended, step, start, Outcome, trees, ending}
-use Rattle.grammar.specs.Verdict.{Check, goes, fails, noted, Next, on, stop, Verdict, accepted, refused, tooLong, named, first, stepped, signed, judge, settled, verdict}
-use Rattle.grammar.specs.Faults.{Refusal, at, rank, Rising, done, also, endFaults, nameFaults, kept, ending-there, itself, then-kept, faults}
+use Rattle.grammar.specs.Trees.{Tree, leaf, Token, word, sign}
+use Rattle.grammar.specs.Reader.{Done, State, before, naming, after, ended, step, start, ending}
+use Rattle.grammar.specs.Faults.{Refusal, at, endFaults, nameFaults, kept, ending-there, itself, then-kept, faults}
 use Rattle.grammar.proofs.Along.{If}
 
 -- ---- rising
+
+-- "the first place decides, then the lower number" (all are below 32).
+abbrev pub rank : Refusal → ℕ
+rank f = 32 * f .place + f .number
+
+-- Each refusal of the list is one of those that count from q on, and those after it count for more.
+pub data Rising : ℕ → List Refusal → Type 0 where
+  done : {q : ℕ} → Rising q []
+  also : (q : ℕ) (f : Refusal) {fs : List Refusal} → q ≤ rank f → Rising (suc (rank f)) fs → Rising q (f ∷ fs)
 
 pub rising-≤ : {q r : ℕ} {fs : List Refusal} → q ≤ r → Rising r fs → Rising q fs
 rising-≤ h done = done
 rising-≤ {q} h (also r f i x) = also q f (omega arith) x
 
--- Numbers of refusals, rising from lo on.
+-- Numbers of refusals, rising from lo on, at most 20.
 pub data Numbers : ℕ → List ℕ → Type 0 where
-  end : {lo : ℕ} → lo ≤ 32 → Numbers lo []
+  end : {lo : ℕ} → lo ≤ 21 → Numbers lo []
   next : {lo r : ℕ} {rs : List ℕ} → lo ≤ r → Numbers (suc r) rs → Numbers lo (r ∷ rs)
 
 -- Those of one place, and then those of later ones.

@@ -1,18 +1,18 @@
 -- What the reader promises: `right`; `complete` and `unique` of Complete.
-use mathlib.Core.Path.{_≡_, refl, sym, subst, _∙_}
+use mathlib.Core.Path.{_≡_, refl, subst}
 use mathlib.Core.List.{List, [], _∷_, _++_, append-assoc, append-nil}
 use mathlib.Core.Option.{none, some}
 use Prim.Native.Nat.{ℕ}
 use native.Mathlib.Omega.{arith}
 use lib.ListN.{length}
 use Rattle.grammar.specs.Bytes.{mark}
-use Rattle.grammar.specs.Trees.{Trees, file}
+use Rattle.grammar.specs.Trees.{Trees}
 use Rattle.grammar.specs.Text.{end, Newick}
-use Rattle.grammar.specs.Reader.{State, before, naming, after, step, Outcome, trees, refused, ending, run, read}
-use Rattle.grammar.specs.Places.{Grammatical, Starts, Fault, at-byte, at-end, Right}
+use Rattle.grammar.specs.Reader.{State, before, naming, after, step, trees, refused, ending, run, read}
+use Rattle.grammar.specs.Places.{Grammatical, Fault, at-byte, at-end, Right}
 use Rattle.grammar.proofs.Complete.{complete}
 use Rattle.grammar.proofs.Along as along
-use Rattle.grammar.proofs.Along.{Sofar, at-before, at-naming, at-after, Reached, Stops, stops, stuck}
+use Rattle.grammar.proofs.Along.{Sofar, at-before, Reached, Stops, stops, stuck}
 use Rattle.grammar.proofs.Starts.{starts}
 
 -- A text that is refused is not of the grammar.

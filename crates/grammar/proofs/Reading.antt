@@ -1,6 +1,6 @@
 -- Reading with the limits accepts exactly the texts that spell trees within them, and gives their taxa and columns (`reads`, `reads-only`).
 -- Any other text is refused by its first fault, by place and then by number (`refuses`), where 16 is the grammar's (`place-16`).
-use mathlib.Core.Path.{_≡_, refl, _∙_}
+use mathlib.Core.Path.{_≡_}
 use mathlib.Core.Bool.{Bool, true, false, cond}
 use mathlib.Core.List.{List, [], _∷_, _++_}
 use Prim.Native.Nat.{ℕ, _+_, _≤_, _<_}
@@ -14,12 +14,11 @@ use Rattle.grammar.specs.Text.{Newick}
 use Rattle.grammar.specs.Columns.{allNames, allColumns}
 use Rattle.grammar.specs.Limits.{isIn, seen, taxa, Within}
 use Rattle.grammar.specs.Verdict.{fails, accepted, refused}
-use Rattle.grammar.specs.Faults.{Rising}
 use Rattle.grammar.specs.Places.{Fault}
 use Rattle.grammar.specs.Clerk.{Tally, nothing, wrongs, keep, note, outcome, faultsOf}
 use Rattle.grammar.specs.Writer.{written}
 use Rattle.grammar.proofs.Promises.{place}
-use Rattle.grammar.proofs.Order.{Numbers, end, next, rising}
+use Rattle.grammar.proofs.Order.{Rising, Numbers, end, next, rising}
 use Rattle.grammar.proofs.First.{First, first-fault, own-16}
 use Rattle.grammar.proofs.Verdicts.{accepts, accepted-right}
 use Rattle.grammar.proofs.Tallies.{between, taken, tallied}
@@ -39,13 +38,13 @@ reads-only s ts e =
 
 -- ---- refusals
 
-single : (lo r : ℕ) → lo ≤ r → r < 32 → Numbers lo (r ∷ [])
+single : (lo r : ℕ) → lo ≤ r → r < 21 → Numbers lo (r ∷ [])
 single lo r h l = next h (end l)
 
 none : Numbers 17 []
 none = end {lo = 17} (omega arith)
 
-numbers : (x : Tally) (w : Token) → Numbers 17 (wrongs x w)
+pub numbers : (x : Tally) (w : Token) → Numbers 17 (wrongs x w)
 unfolding wrongs
 numbers x (word n) = go (ltb 32 (length n)) (isIn n (x .here)) (ltb 64 (length (seen (x .taxa) (n ∷ []))))
   where

@@ -1,6 +1,6 @@
 -- A state's shape tells whether a byte can stand there, and the next shape (`goes-on`, `stops-there`), and whether the file can end (`may-end`, `may-not-end`).
 use mathlib.Core.Path.{_≡_, refl, sym, _∙_}
-use mathlib.Core.Bool.{Bool, true, false, true≢false}
+use mathlib.Core.Bool.{true, false, true≢false}
 use mathlib.Core.List.{List, [], _∷_, map}
 use mathlib.Core.Option.{Option, none, some}
 use Prim.Native.Nat.{ℕ}
@@ -8,7 +8,7 @@ use native.Mathlib.Omega.{arith}
 use Rattle.grammar.specs.Bytes.{Sign, Mark, left, right, comma, semicolon, blank, letter, wrong, sign}
 use Rattle.grammar.specs.Trees.{Tree, Trees, leaf}
 use Rattle.grammar.specs.Reader.{Done, State, before, naming, after, ended, step, Outcome, trees, ending}
-use Rattle.grammar.specs.inner.Shape.{Phase, beginning, Shape, has, shapeOf, shape, afterSubtree, stepShape, next}
+use Rattle.grammar.specs.inner.Shape.{beginning, Shape, has, shapeOf, shape, afterSubtree, stepShape, next}
 
 abbrev shapes : Option State → Option Shape
 shapes none = none

@@ -1,13 +1,13 @@
 -- Whatever the reader has read can go on to a text of the grammar (`starts`).
 use mathlib.Core.Path.{_≡_, refl, subst}
 use mathlib.Core.List.{List, [], _∷_, _++_, append-assoc}
-use mathlib.Core.Option.{Option, none, some}
+use mathlib.Core.Option.{none, some}
 use Prim.Native.Nat.{ℕ}
-use Rattle.grammar.specs.Bytes.{mark, byte, left, right, comma, semicolon, letter}
-use Rattle.grammar.specs.Trees.{Tree, Trees, leaf, inner, one, then, Token, word, sign, tokens, commas, file}
-use Rattle.grammar.specs.Text.{Name, only, more, Spells, end, gap, then-sign, then-word, Newick}
-use Rattle.grammar.specs.Reader.{Done, add, State, before, naming, after}
-use Rattle.grammar.specs.Places.{Grammatical, Starts}
+use Rattle.grammar.specs.Bytes.{mark, byte, right, comma, semicolon}
+use Rattle.grammar.specs.Trees.{Tree, Trees, leaf, inner, one, then, Token, word, sign, tokens, file}
+use Rattle.grammar.specs.Text.{Name, only, Spells, end, then-sign, then-word}
+use Rattle.grammar.specs.Reader.{Done, State}
+use Rattle.grammar.specs.Places.{Starts}
 use Rattle.grammar.proofs.Along.{filed, brackets, Behind, Sofar, at-before, at-naming, at-after, behind-name}
 
 -- The name "A".

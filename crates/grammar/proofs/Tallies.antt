@@ -3,17 +3,17 @@ use mathlib.Core.Path.{_≡_, refl, sym, ap, _∙_, subst}
 use mathlib.Core.Bool.{Bool, true, false, cond}
 use mathlib.Core.Logic.{⊎-elim}
 use mathlib.Core.List.{List, [], _∷_, _++_, append-nil, map, tail, List·Memᴰ·head, List·Memᴰ·eq-of-singleton, List·Memᴰ·append-cases, List·Memᴰ·not-nil, Memᴰ·append-left, Memᴰ·append-right}
-use Prim.Native.Nat.{ℕ, suc, pred, max, _+_, _≤_, _<_}
+use Prim.Native.Nat.{ℕ, suc, pred, _+_, _≤_}
 use native.Mathlib.Omega.{arith}
 use lib.Dec.{ltb}
 use lib.ListN.{length, length-append, length-map}
-use borrow.Author.Tests.{ltb-false, le-ltb, lt-ltb}
-use Rattle.grammar.specs.Bytes.{Sign, left, right, comma, semicolon}
+use borrow.Author.Tests.{ltb-false, le-ltb}
+use Rattle.grammar.specs.Bytes.{left, right, comma, semicolon}
 use Rattle.grammar.specs.Trees.{Tree, Trees, leaf, inner, one, then, Token, word, sign, tokens, commas, file}
 use Rattle.grammar.specs.Columns.{Bytes, Column, names, allNames, clades, allClades, columns, allColumns}
 use Rattle.grammar.specs.Limits.{isIn, seen, taxa, Distinct, end, next, depth, deepest, Once, first, and, Within}
 use Rattle.grammar.specs.Verdict.{Check, goes, fails, noted, notes}
-use Rattle.grammar.specs.Clerk.{Tally, nothing, name, opened, closed, finished, wrongs, keep, note}
+use Rattle.grammar.specs.Clerk.{Tally, nothing, name, opened, wrongs, keep, note}
 use Rattle.grammar.proofs.Lists.{seen-append, seen-grows}
 use Rattle.grammar.proofs.Rooms.{plus, plus-plus, closed-plus, Room, room-former, room-latter, room-both, room-in, room-out, Sane, room-sane}
 

@@ -1,20 +1,20 @@
 -- The reader with a clerk accepts exactly the texts that spell trees whose tokens the clerk takes one by one (`accepts`, `accepted-right`).
-use mathlib.Core.Path.{_≡_, refl, sym, ap, _∙_, subst}
+use mathlib.Core.Path.{_≡_, refl, sym, _∙_, subst}
 use mathlib.Core.Bool.{Bool, true, false, cond}
 use mathlib.Core.List.{List, [], _∷_, _++_, append-assoc, append-nil}
 use mathlib.Core.Option.{Option, none, some}
-use Prim.Native.Nat.{ℕ, suc, _+_, _<_}
+use Prim.Native.Nat.{ℕ, suc, _<_}
 use native.Mathlib.Omega.{arith}
 use lib.ListN.{length, length-append}
 use lib.Dec.{eqb}
 use borrow.Author.Tests.{eqb-true}
 use Rattle.grammar.specs.Bytes.{Sign, Mark, mark, left, right, comma, semicolon, blank, letter, wrong}
 use Rattle.grammar.specs.Bytes as bytes
-use Rattle.grammar.specs.Trees.{Tree, Trees, leaf, inner, one, then, Token, word, sign, tokens, commas, file}
+use Rattle.grammar.specs.Trees.{Tree, Trees, leaf, inner, one, then, Token, word, sign, tokens, file}
 use Rattle.grammar.specs.Text.{Newick}
 use Rattle.grammar.specs.Reader.{Done, State, before, naming, after, ended, step, start, Outcome, trees, ending, run, read}
 use Rattle.grammar.specs.Reader as reader
-use Rattle.grammar.specs.Verdict.{Check, goes, fails, Next, on, stop, Verdict, accepted, refused, notes, named, first, stepped, signed, judge, settled, verdict}
+use Rattle.grammar.specs.Verdict.{Check, goes, fails, Next, on, stop, Verdict, accepted, refused, notes, named, first, signed, judge, verdict}
 use Rattle.grammar.proofs.Complete.{went, complete}
 use Rattle.grammar.proofs.Along.{filed, brackets, If}
 use Rattle.grammar.proofs.Promises.{sound}

@@ -4,7 +4,7 @@ use mathlib.Core.List.{List, [], _∷_, _++_, map, tail}
 use Prim.Native.Nat.{ℕ, _+_}
 use lib.Dec.{ltb}
 use lib.ListN.{length, set, drop}
-use Rattle.grammar.specs.Bytes.{Sign, left, right, comma, semicolon}
+use Rattle.grammar.specs.Bytes.{left, right, comma, semicolon}
 use Rattle.grammar.specs.Trees.{Token, word, sign}
 use Rattle.grammar.specs.Columns.{Bytes, Column}
 use Rattle.grammar.specs.Limits.{isIn, seen}
@@ -17,6 +17,7 @@ pub record Opened : Type 0 where
   pub index : ℕ
   pub names : ℕ
 
+-- What the clerk keeps.
 pub record Tally : Type 0 where
   -- Of the file: the taxa, and the columns of the trees that are finished.
   pub taxa : List Bytes
@@ -26,12 +27,15 @@ pub record Tally : Type 0 where
   pub brackets : List Opened
   pub clades : List (List Bytes)
 
+-- Before the first token.
 abbrev pub nothing : Tally
 nothing = record { taxa = []; columns = []; here = []; brackets = []; clades = [] }
 
+-- A name: it is a taxon, an old one or a new one, and one of the tree's names.
 abbrev pub name : Tally → Bytes → Tally
 name x n = record { taxa = seen (x .taxa) (n ∷ []); columns = x .columns; here = x .here ++ n ∷ []; brackets = x .brackets; clades = x .clades }
 
+-- A bracket opens: its clade is not known yet.
 abbrev pub opened : Tally → Tally
 opened x = record {
   taxa = x .taxa;
@@ -41,12 +45,18 @@ opened x = record {
   clades = x .clades ++ [] ∷ [];
 }
 
--- The bracket's clade are the names that came since it opened.
+-- The last open bracket closes: its clade are the names that came since it opened.
 abbrev pub closed : Tally → List Opened → Tally
 closed x [] = x
-closed x (o ∷ os) = record { taxa = x .taxa; columns = x .columns; here = x .here; brackets = os; clades = set (x .clades) (o .index) (drop (o .names) (x .here)) }
+closed x (o ∷ os) = record {
+  taxa = x .taxa;
+  columns = x .columns;
+  here = x .here;
+  brackets = os;
+  clades = set (x .clades) (o .index) (drop (o .names) (x .here));
+}
 
--- The tree's columns, without the root, which opened first.
+-- A tree is finished: its clades are columns, but for the root's, which opened first.
 abbrev pub finished : Tally → Tally
 finished x = record {
   taxa = x .taxa;
@@ -68,6 +78,7 @@ wrongs x (sign right) = []
 wrongs x (sign comma) = []
 wrongs x (sign semicolon) = []
 
+-- What is kept of each token.
 unfoldable pub keep : Tally → Token → Tally
 keep x (word n) = name x n
 keep x (sign left) = opened x

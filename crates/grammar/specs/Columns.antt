@@ -3,6 +3,7 @@ use mathlib.Core.List.{List, [], _∷_, _++_, map}
 use Prim.Native.Nat.{ℕ}
 use Rattle.grammar.specs.Trees.{Tree, Trees, leaf, inner, one, then}
 
+-- A name, as the bytes of the file.
 abbrev pub Bytes : Type 0
 Bytes = List ℕ
 
@@ -31,11 +32,12 @@ pub record Column : Type 0 where
   pub ones : List Bytes
   pub tree : List Bytes
 
--- Of a tree: of all inner vertices but the root, which stands first.
+-- "Every inner vertex but the root", which stands first, "gives a column".
 unfoldable pub columns : Tree → List Column
 columns (leaf n) = []
 columns (inner ts t) = map (λ c. record { ones = c; tree = allNames ts ++ names t }) (allClades ts ++ clades t)
 
+-- "Trees give columns in file order".
 unfoldable pub allColumns : Trees → List Column
 allColumns (one t) = columns t
 allColumns (then ts t) = allColumns ts ++ columns t

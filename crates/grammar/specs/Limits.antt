@@ -8,12 +8,14 @@ use lib.ListN.{length}
 use Rattle.grammar.specs.Trees.{Tree, Trees, leaf, inner, one, then}
 use Rattle.grammar.specs.Columns.{Bytes, names, allNames, allColumns}
 
+-- Whether two names have the same bytes.
 unfoldable pub equal : Bytes → Bytes → Bool
 equal [] [] = true
 equal [] (b ∷ m) = false
 equal (a ∷ n) [] = false
 equal (a ∷ n) (b ∷ m) = eqb a b && equal n m
 
+-- Whether a name is one of a list.
 unfoldable pub isIn : Bytes → List Bytes → Bool
 isIn n [] = false
 isIn n (m ∷ ms) = equal n m || isIn n ms
@@ -23,6 +25,7 @@ unfoldable pub seen : List Bytes → List Bytes → List Bytes
 seen ns [] = ns
 seen ns (m ∷ ms) = seen (cond (isIn m ns) ns (ns ++ m ∷ [])) ms
 
+-- The taxa of a file of trees.
 abbrev pub taxa : Trees → List Bytes
 taxa ts = seen [] (allNames ts)
 
@@ -51,6 +54,7 @@ pub data Once : Trees → Type 0 where
   first : {t : Tree} → Distinct [] (names t) → Once (one t)
   and : {ts : Trees} {t : Tree} → Once ts → Distinct [] (names t) → Once (then ts t)
 
+-- Trees that break no limit (each name has a byte, or it could not be spelt).
 pub record Within (ts : Trees) : Type 0 where
   pub short : (n : Bytes) → List·Memᴰ n (allNames ts) → length n ≤ 32
   pub once : Once ts

@@ -22,6 +22,7 @@ pub data Fault (s : List ℕ) : ℕ → Type 0 where
   -- The file's end: the text can go on, but not end there.
   at-end : Starts s → (Grammatical s → ⊥) → Fault s (length s)
 
+-- An outcome is right where it names the trees that the text spells, or the place of refusal 16.
 abbrev pub Right : List ℕ → Outcome → Type 0
 Right s (trees ts) = Newick s ts
 Right s (refused p) = Fault s p

@@ -9,6 +9,7 @@ use Rattle.grammar.specs.Trees.{Tree, Trees, leaf, inner, one, then}
 abbrev pub Done : Type 0
 Done = Option Trees
 
+-- These and one more.
 abbrev pub add : Done → Tree → Trees
 add none t = one t
 add (some ts) t = then ts t
@@ -69,6 +70,7 @@ unfoldable pub run : ℕ → State → List ℕ → Outcome
 run p σ [] = ending p σ
 run p σ (b ∷ s) = elim (step σ b (mark b)) [ none ↦ refused p | some σ′ ↦ run (suc p) σ′ s ]
 
+-- Before the first byte.
 abbrev pub start : State
 start = before none []
 

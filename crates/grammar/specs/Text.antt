@@ -19,6 +19,6 @@ pub data Spells : List Token → List ℕ → Type 0 where
   then-sign : {b : ℕ} {g : Sign} {k : List Token} {s : List ℕ} → mark b ≡ bytes.sign g → Spells k s → Spells (sign g ∷ k) (b ∷ s)
   then-word : {n : List ℕ} {k : List Token} {s : List ℕ} → Name n → Spells k s → Spells (word n ∷ k) (n ++ s)
 
--- A text spells trees.
+-- A text spells trees: it is "a file of trees".
 abbrev pub Newick : List ℕ → Trees → Type 0
 Newick s ts = Spells (file ts []) s

@@ -1,5 +1,5 @@
 -- Trees as document 02 has them, and their tokens: "A subtree is a name or two or more subtrees, commas between, in round brackets."
-use mathlib.Core.List.{List, [], _∷_}
+use mathlib.Core.List.{List, _∷_}
 use Prim.Native.Nat.{ℕ}
 use Rattle.grammar.specs.Bytes.{Sign, left, right, comma, semicolon}
 
@@ -14,6 +14,7 @@ mutual
     one : Tree → Trees
     then : Trees → Tree → Trees
 
+-- What a text is made of, blanks aside: names and signs.
 pub data Token : Type 0 where
   word : List ℕ → Token
   sign : Sign → Token

@@ -1,7 +1,7 @@
 -- The reader with a clerk, who is told each token as it ends and keeps what he will, or refuses it by a number. The name that a byte ends is told
 -- before the byte is judged, and the byte's own token after. So "the first place decides, then the lower number".
-use mathlib.Core.Bool.{Bool, true, false, cond}
-use mathlib.Core.List.{List, [], _∷_, _++_}
+use mathlib.Core.Bool.{Bool, false, cond}
+use mathlib.Core.List.{List, [], _∷_}
 use mathlib.Core.Option.{Option, none, some}
 use Prim.Native.Nat.{ℕ, suc, _-_}
 use lib.Dec.{eqb}
@@ -9,22 +9,24 @@ use lib.ListN.{length}
 use Rattle.grammar.specs.Bytes.{Sign, Mark, mark, blank, letter, wrong}
 use Rattle.grammar.specs.Bytes as bytes
 use Rattle.grammar.specs.Trees.{Trees, Token, word, sign}
-use Rattle.grammar.specs.Reader.{State, before, naming, after, step, start, Outcome, trees, ending}
+use Rattle.grammar.specs.Reader.{State, before, naming, after, step, Outcome, trees, ending}
 
 -- What the clerk does at a token.
 pub data Check (T : Type 0) : Type 0 where
   goes : T → Check T
   fails : ℕ → Check T
 
+-- He refuses by the first of the numbers that a token breaks, and keeps x where it breaks none.
 abbrev pub noted : {T : Type 0} → List ℕ → T → Check T
 noted [] x = goes x
 noted (r ∷ rs) x = fails r
 
--- What a byte, and what the file, comes to: a refusal has a number and a place.
+-- What a byte comes to: a refusal has a number and a place.
 pub data Next (T : Type 0) : Type 0 where
   on : State → T → Next T
   stop : ℕ → ℕ → Next T
 
+-- What the file comes to: its trees and what the clerk kept, or a refusal.
 pub data Verdict (T : Type 0) : Type 0 where
   accepted : Trees → T → Verdict T
   refused : ℕ → ℕ → Verdict T
@@ -41,12 +43,13 @@ module _ {T : Type 0} (note : T → Token → Check T) where
   notes x [] = goes x
   notes x (w ∷ k) = elim (note x w) [ goes y ↦ notes y k | fails r ↦ fails r ]
 
-  -- The name that ends here, if one does, and its place if it is refused.
+  -- The name that ends here, if one does, is told.
   unfoldable pub named : State → T → Check T
   named (before d fs) x = goes x
   named (naming d fs n) x = note x (word n)
   named (after d fs t) x = goes x
 
+  -- Its first byte, where it is refused.
   abbrev pub first : ℕ → State → ℕ
   first p (before d fs) = p
   first p (naming d fs n) = p - length n
@@ -74,6 +77,7 @@ module _ {T : Type 0} (note : T → Token → Check T) where
   settled (trees ts) x = accepted ts x
   settled (Outcome.refused p) x = refused 16 p
 
+  -- The text s from the place p on.
   unfoldable pub verdict : ℕ → State → T → List ℕ → Verdict T
   verdict p σ x [] = elim (named σ x) [ goes y ↦ settled (ending p σ) y | fails r ↦ refused r (first p σ) ]
   verdict p σ x (b ∷ s) = elim (judge p σ x b (mark b)) [ on σ′ y ↦ verdict (suc p) σ′ y s | stop r q ↦ refused r q ]

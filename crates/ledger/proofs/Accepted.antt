@@ -34,7 +34,7 @@ pub record LegalTally (x : Tally) : Type 0 where
   pub named : Named (x .taxa)
   pub short : (n : Bytes) → List·Memᴰ n (x .taxa) → length n ≤ 32
   pub columns-fit : length (x .columns) ≤ 256
-  -- "the names under it" are of the tree, whose names are of the file.
+  -- The names under a vertex are of its tree, whose names are of the file.
   pub trees : (c : Column) → List·Memᴰ c (x .columns) → Among (x .taxa) (c .tree) × Among (c .tree) (c .ones)
   pub columns : (c : Column) → List·Memᴰ c (x .columns) → LegalSets (x .taxa) c
 

@@ -1,9 +1,9 @@
--- The set of some names has their numbers (`in-set`), and stays when more taxa are seen (`set-seen`).
+-- The set of some names has their numbers (`in-set`), so the taxa with these names (`named-in`), and stays when more taxa are seen (`set-seen`).
 use mathlib.Core.Path.{_≡_, refl, sym, ap, _∙_}
 use mathlib.Core.Bool.{Bool, true, false, _||_, cond, true≢false}
 use mathlib.Core.Logic.{_↔_, inl, inr, ⊎-elim}
-use mathlib.Core.List.{List, [], _∷_, _++_, List·Memᴰ, List·Memᴰ·head, List·Memᴰ·tail, List·Memᴰ·append-cases, Memᴰ·append-left, Memᴰ·append-right}
-use Prim.Native.Nat.{ℕ, suc, _^_}
+use mathlib.Core.List.{List, [], _∷_, _++_, List·Memᴰ, List·Memᴰ·head, List·Memᴰ·tail, List·Memᴰ·append-cases, Memᴰ·append-left, Memᴰ·append-right, Memᴰ·cast}
+use Prim.Native.Nat.{ℕ, zero, suc, _^_, _<_}
 use native.Mathlib.Omega.{arith}
 use lib.Dec.{ltb}
 use lib.ListN.{length, getD, take, drop, take-append-drop}
@@ -11,9 +11,9 @@ use borrow.Author.Tests.{lt-ltb, le-ltb}
 use Rattle.taxa.specs.Sets.{_∈_, _∉_, _⊆_, _∪_, _∖_, within, all}
 use Rattle.taxa.proofs.Members.{none, in∪, in∖, ext, ∪-⊆, ⊆-refl, in-pow, pow-in, pow-⊆, in-all, within-⊆}
 use Rattle.grammar.specs.Columns.{Bytes}
-use Rattle.grammar.specs.Limits.{equal, isIn, seen, number, Distinct}
+use Rattle.grammar.specs.Limits.{equal, isIn, seen, number, Distinct, end, next}
 use Rattle.grammar.proofs.Lists.{distinct-latter}
-use Rattle.grammar.proofs.Numbering.{equal-refl, mem-isIn, isIn-mem, number-at, number-seen, apart}
+use Rattle.grammar.proofs.Numbering.{equal-refl, equal-true, mem-isIn, isIn-mem, number-at, number-seen, apart}
 use Rattle.ledger.specs.Sets.{setOf}
 
 -- Every name of ns is among ms.
@@ -141,7 +141,33 @@ bit-in {n} {taxa} {ns} h k = go (within (2 ^ number taxa n) (setOf taxa ns)) (is
         let j = one-name (k m g) h i in absurd (true≢false (sym (mem-isIn (rw j at g)) ∙ f))
     go false true e f = absurd (true≢false (sym (within-⊆ (2 ^ number taxa n) (setOf taxa ns) .1 (pow-⊆ (to-set taxa (isIn-mem n ns f)))) ∙ e))
 
--- ---- what came since
+-- ---- names that differ
+
+-- What stands at a place of a list is in it.
+pub in-list : {A : Type 0} (l : List A) (i : ℕ) (d : A) → i < length l → List·Memᴰ (getD l i d) l
+in-list [] i d b = absurd (omega arith)
+in-list (a ∷ l) zero d b = List·Memᴰ·head refl
+in-list (a ∷ l) (suc i) d b = List·Memᴰ·tail (in-list l i d (omega arith))
+
+-- Taxon i has the number i.
+pub number-of : {ns ms : List Bytes} → Distinct ns ms → (i : ℕ) → i < length ms → number ms (getD ms i []) ≡ i
+unfolding number
+number-of end i l = absurd (omega arith)
+number-of (next {m} e d) zero l = rw (equal-refl m)
+number-of (next {m} {ns} {ms} e d) (suc i) l = go (equal (getD ms i []) m) refl (number-of d i (omega arith))
+  where
+    go : (c : Bool) → equal (getD ms i []) m ≡ c → number ms (getD ms i []) ≡ i → cond c 0 (suc (number ms (getD ms i []))) ≡ suc i
+    go true f ih =
+        let same = equal-true (getD ms i []) m f in
+        absurd (apart d (Memᴰ·append-right ns (List·Memᴰ·head same)) (in-list ms i [] (omega arith)))
+    go false f ih = ap suc ih
+
+-- Which taxa are in a set, by their names.
+pub named-in : {taxa ns : List Bytes} → Distinct [] taxa → Among taxa ns → (i : ℕ) → i < length taxa → i ∈ setOf taxa ns ↔ List·Memᴰ (getD taxa i []) ns
+named-in {taxa} {ns} d k i l = (λ h. out (in-set taxa ns .0 h), λ m. in-set taxa ns .1 (getD taxa i [], m, number-of d i l))
+  where
+    out : HasNumber taxa ns i → List·Memᴰ (getD taxa i []) ns
+    out (n, m, e) = Memᴰ·cast (ap (λ (j : ℕ). getD taxa j []) (sym e) ∙ number-at (k n m) .1) m
 
 since : {taxa : List Bytes} (ns ms : List Bytes) → Among taxa (ns ++ ms) → Distinct [] (ns ++ ms) → setOf taxa (ns ++ ms) ∖ setOf taxa ns ≡ setOf taxa ms
 since {taxa} ns ms k d = ext (record { sub = λ h. out (in∖ (setOf taxa (ns ++ ms)) (setOf taxa ns) .0 h) }) (record { sub = λ h. back (of-set taxa ms h) })

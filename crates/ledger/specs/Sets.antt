@@ -1,4 +1,4 @@
--- Names as sets of taxa: "Taxa are numbered by first appearance", "Its 1-set are the names under it, its 0-set the tree's other names" (document 02, C-11).
+-- Names as sets of taxa: "Taxa are numbered by first appearance" (document 02, C-11), and what a column has, "as source document 001 has it".
 use mathlib.Core.List.{List, [], _∷_}
 use Prim.Native.Nat.{ℕ, _^_}
 use Rattle.taxa.specs.Sets.{_∪_, _∖_}
@@ -10,10 +10,10 @@ unfoldable pub setOf : List Bytes → List Bytes → ℕ
 setOf taxa [] = 0
 setOf taxa (n ∷ ns) = 2 ^ number taxa n ∪ setOf taxa ns
 
--- "the names under it".
+-- "Entry '1' indicates that the corresponding taxon is a leaf of the subtree rooted in the inner node",
 abbrev pub onesOf : List Bytes → Column → ℕ
 onesOf taxa c = setOf taxa (c .ones)
 
--- "the tree's other names".
+-- "whereas all other taxa are encoded '0'", but for "taxa that are not part of the input tree".
 abbrev pub zerosOf : List Bytes → Column → ℕ
 zerosOf taxa c = setOf taxa (c .tree) ∖ setOf taxa (c .ones)

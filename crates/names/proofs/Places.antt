@@ -1,5 +1,5 @@
--- The check refuses by numbers up to 18, at places in the file or at its end (`refusal-there`).
-use mathlib.Core.Path.{_≡_, refl}
+-- The check refuses by numbers up to 18, at places in the file or at its end (`refusal-there`), and takes no more names than the file has bytes (`taken-few`).
+use mathlib.Core.Path.{_≡_, refl, ap}
 use mathlib.Core.Bool.{Bool, true, false, cond}
 use mathlib.Core.List.{List, [], _∷_, _++_}
 use Prim.Native.Nat.{ℕ, zero, suc, _≤_, _<_}
@@ -9,7 +9,7 @@ use lib.ListN.{length}
 use borrow.Author.Tests.{ltb-true}
 use Rattle.grammar.specs.Columns.{Bytes}
 use Rattle.grammar.specs.Limits.{isIn}
-use Rattle.record.specs.Bytes.{numberAt}
+use Rattle.record.specs.Bytes.{numberAt, File}
 use Rattle.record.specs.Records as records
 use Rattle.record.specs.Records.{recordOf, refused, left, finds, varied, varyingStep, judged, nothingAfter}
 use Rattle.record.specs.declared.Cursor.{Cursor}
@@ -21,10 +21,12 @@ use Rattle.record.specs.declared.Passed.{Passed}
 use Rattle.record.specs.declared.Passed.the-variants.{At, Refused}
 use Rattle.record.proofs.Steps.{EndsBy, step-ends, either-way}
 use Rattle.names.specs.declared.Listed.the-variants as answer
-use Rattle.names.specs.Names.{nameAt}
+use Rattle.names.specs.Names.{nameAt, listLength}
 use Rattle.names.specs.Check.{anyName, spelt, nameJudged, namePassed, endPassed}
-use Rattle.names.specs.Check.{Listing, names, refusal, ended, goesOn, listedIn, listed, counted, checked}
+use Rattle.names.specs.Check.{Listing, names, refusal, ended, goesOn, listedIn, listed, namesIn, counted, checked}
+use Rattle.names.proofs.Lists.{length-list}
 use Rattle.names.proofs.Passing.{passing}
+use Rattle.names.proofs.Taken.{taken-is-file, taken-count}
 
 module _ (file : List ℕ) where
   -- A refusal at a place of the file or at its end, by one of the check's numbers.
@@ -92,3 +94,16 @@ module _ (file : List ℕ) where
   pub refusal-there : {why : Refusal} → answer.Refused why ≡ checked file → (why .place ≤ length file) × (0 < why .number) × (why .number ≤ 18)
   unfolding checked listed
   refusal-there e = told-counted (listed file) (told-in (left file 0) [] (record { at = 0 }) (omega arith)) e
+
+-- ---- how many names
+
+few : (ns : List Bytes) → length ns ≤ listLength ns
+unfolding listLength
+few [] = omega arith
+few (n ∷ ns) = omega (arith, few ns)
+
+pub taken-few : {file : List ℕ} {count : ℕ} → File file → answer.Taken count ≡ checked file → count ≤ length file
+taken-few {file} f e =
+    let (taken, as-many) = taken-count file e in
+    let ns = namesIn file in
+    omega (arith, as-many, few ns, length-list ns, ap length (taken-is-file file taken f))

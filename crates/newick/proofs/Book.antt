@@ -17,8 +17,9 @@ use Rattle.grammar.specs.Columns.{Bytes}
 use Rattle.grammar.specs.Limits.{number}
 use Rattle.grammar.specs.inner.Shape.{beginning, ended}
 use Rattle.grammar.specs.inner.Standing.{Run, piece, Standing}
-use Rattle.grammar.proofs.Standing as standing
-use Rattle.grammar.proofs.Standing.{piece-length, skips, cannot-begin, cannot-follow, opens, open-refused, closes, closes-one, closes-none, goes-to-next, next-outside, finishes, finishes-inside, names, name-refused, too-long, ends, ends-unfinished, ends-treeless, ends-inside}
+use Rattle.grammar.proofs.Standing.{piece-length, skips, cannot-begin, cannot-follow, opens, open-refused, closes, closes-one, closes-none}
+use Rattle.grammar.proofs.Standing.{goes-to-next, next-outside, finishes, finishes-inside, names, name-refused, too-long}
+use Rattle.grammar.proofs.Standing.{starts, ends, ends-unfinished, ends-treeless, ends-inside}
 use Rattle.ledger.specs.inner.Ledger.{Ledger, unwritten, note, outcome, wrongs, keep, opening, entering, known}
 use Rattle.newick.specs.declared.Reading.{Reading}
 use Rattle.newick.specs.inner.Names.{namesIn}
@@ -28,7 +29,7 @@ use Rattle.newick.proofs.Names.{one-further, number-most, length-names,
 -- ---- the lists of open brackets
 
 -- A store past the first d changes none of them.
-pub brackets-kept : (index before : List ℕ) (i v w d : ℕ) → d ≤ i → bracketsIn (set index i v) (set before i w) d ≡ bracketsIn index before d
+brackets-kept : (index before : List ℕ) (i v w d : ℕ) → d ≤ i → bracketsIn (set index i v) (set before i w) d ≡ bracketsIn index before d
 unfolding bracketsIn
 brackets-kept index before i v w zero l = refl
 brackets-kept index before i v w (suc d) l =
@@ -36,7 +37,7 @@ brackets-kept index before i v w (suc d) l =
     let f = getD-set-other before i d w 0 (λ e. absurd (omega arith)) in
     rw (e, f, brackets-kept index before i v w d (omega arith))
 
-pub filled-kept : (filled : List Bool) (i : ℕ) (v : Bool) (d : ℕ) → d ≤ i → filledIn (set filled i v) d ≡ filledIn filled d
+filled-kept : (filled : List Bool) (i : ℕ) (v : Bool) (d : ℕ) → d ≤ i → filledIn (set filled i v) d ≡ filledIn filled d
 unfolding filledIn
 filled-kept filled i v zero l = refl
 filled-kept filled i v (suc d) l = rw (getD-set-other filled i d v false (λ e. absurd (omega arith)), filled-kept filled i v d (omega arith))
@@ -47,42 +48,32 @@ length-brackets index before zero = refl
 length-brackets index before (suc d) = ap suc (length-brackets index before d)
 
 -- One more.
-pub brackets-more : (index before : List ℕ) (v w d e : ℕ) → e ≡ d + 1 → d < length index → d < length before
+brackets-more : (index before : List ℕ) (v w d e : ℕ) → e ≡ d + 1 → d < length index → d < length before
     → bracketsIn (set index d v) (set before d w) e ≡ record { index = v; before = w } ∷ bracketsIn index before d
 unfolding bracketsIn
 brackets-more index before v w d e q i j =
     rw (q, add-one, getD-set-same index d v 0 i, getD-set-same before d w 0 j, brackets-kept index before d v w d (omega arith))
 
-pub filled-more : (filled : List Bool) (v : Bool) (d e : ℕ) → e ≡ d + 1 → d < length filled → filledIn (set filled d v) e ≡ v ∷ filledIn filled d
+filled-more : (filled : List Bool) (v : Bool) (d e : ℕ) → e ≡ d + 1 → d < length filled → filledIn (set filled d v) e ≡ v ∷ filledIn filled d
 unfolding filledIn
 filled-more filled v d e q l = rw (q, add-one, getD-set-same filled d v false l, filled-kept filled d v d (omega arith))
 
 -- The last.
-pub brackets-last : (index before : List ℕ) (d e : ℕ) → d ≡ e + 1
+brackets-last : (index before : List ℕ) (d e : ℕ) → d ≡ e + 1
     → bracketsIn index before d ≡ record { index = getD index e 0; before = getD before e 0 } ∷ bracketsIn index before e
 unfolding bracketsIn
 brackets-last index before d e q = rw (q, add-one)
 
-pub filled-last : (filled : List Bool) (d e : ℕ) → d ≡ e + 1 → filledIn filled d ≡ getD filled e false ∷ filledIn filled e
+filled-last : (filled : List Bool) (d e : ℕ) → d ≡ e + 1 → filledIn filled d ≡ getD filled e false ∷ filledIn filled e
 unfolding filledIn
 filled-last filled d e q = rw (q, add-one)
 
-pub none-filled : (filled : List Bool) (d : ℕ) → d ≡ 0 → filledIn filled d ≡ []
+-- None.
+none-filled : (filled : List Bool) (d : ℕ) → d ≡ 0 → filledIn filled d ≡ []
 unfolding filledIn
 none-filled filled d e = rw e
 
 -- ---- the columns
-
--- A clade put after the columns leaves them.
-pub columns-kept : (ones : List ℕ) (columns i clade : ℕ) → take columns (cladePut ones columns i clade) ≡ take columns ones
-unfolding cladePut
-columns-kept ones columns zero clade = refl
-columns-kept ones columns (suc i) clade = take-set-le columns ones (columns + i) clade (omega arith)
-
-pub length-put : (ones : List ℕ) (columns i clade : ℕ) → length (cladePut ones columns i clade) ≡ length ones
-unfolding cladePut
-length-put ones columns zero clade = refl
-length-put ones columns (suc i) clade = length-set ones (columns + i) clade
 
 not-first : (i : ℕ) → eqb (suc i) 0 ≡ false
 not-first i = ne-eqb (suc i) 0 (λ e. absurd (omega arith))
@@ -93,11 +84,19 @@ one-less i = omega arith
 more-less : (i : ℕ) → i + 1 - 1 ≡ i
 more-less i = omega arith
 
-one-up : (i : ℕ) → i + 1 ≡ suc i
-one-up i = add-one i
+-- A clade put after the columns leaves them,
+columns-kept : (ones : List ℕ) (columns i clade : ℕ) → take columns (cladePut ones columns i clade) ≡ take columns ones
+unfolding cladePut
+columns-kept ones columns zero clade = refl
+columns-kept ones columns (suc i) clade = take-set-le columns ones (columns + i) clade (omega arith)
 
--- .. as one clade more,
-pub clades-more : (ones : List ℕ) (columns opened : ℕ) → columns + opened ≤ length ones
+length-put : (ones : List ℕ) (columns i clade : ℕ) → length (cladePut ones columns i clade) ≡ length ones
+unfolding cladePut
+length-put ones columns zero clade = refl
+length-put ones columns (suc i) clade = length-set ones (columns + i) clade
+
+-- .. and is one clade more,
+clades-more : (ones : List ℕ) (columns opened : ℕ) → columns + opened ≤ length ones
     → take opened (drop columns (cladePut ones columns opened 0))
     ≡ cond (eqb opened 0) (take (opened - 1) (drop columns ones)) (take (opened - 1) (drop columns ones) ++ 0 ∷ [])
 unfolding cladePut
@@ -106,8 +105,8 @@ clades-more ones columns (suc i) l =
     let room : i < length (drop columns ones) = omega (arith, length-drop columns ones) in
     rw (not-first i, one-less i, drop-set-add columns ones i 0) (take-suc-set (drop columns ones) i 0 room)
 
--- .. or in its place among the clades.
-pub clade-set : (ones : List ℕ) (columns opened i clade : ℕ) → i < opened
+-- .. or takes its place among the clades.
+clade-set : (ones : List ℕ) (columns opened i clade : ℕ) → i < opened
     → take (opened - 1) (drop columns (cladePut ones columns i clade))
     ≡ cond (eqb i 0) (take (opened - 1) (drop columns ones)) (set (take (opened - 1) (drop columns ones)) (i - 1) clade)
 unfolding cladePut
@@ -115,6 +114,7 @@ clade-set ones columns opened zero clade l = refl
 clade-set ones columns opened (suc i) clade l =
     rw (not-first i, one-less i, drop-set-add columns ones i clade) (take-set-lt (opened - 1) (drop columns ones) i clade (omega arith))
 
+-- As the code puts it: the root's has no place.
 pub put-root : (ones : List ℕ) (columns i clade : ℕ) → i ≡ 0 → ones ≡ cladePut ones columns i clade
 unfolding cladePut
 put-root ones columns i clade e = rw e
@@ -137,7 +137,7 @@ zero-more ones zeros kept here first c l i j e =
     let next : take (suc (c - first)) (drop first ones) ≡ take (c - first) (drop first ones) ++ (getD ones c 0 ∷ []) =
     take-suc (drop first ones) (c - first) 0 (omega (arith, length-drop first ones)) ∙ rw (getD-drop first ones (c - first) 0, place)
     in
-    rw (size, next, map-append (λ x. here ∖ x) (take (c - first) (drop first ones)) (getD ones c 0 ∷ []), ← append-assoc, ← e, one-up c)
+    rw (size, next, map-append (λ x. here ∖ x) (take (c - first) (drop first ones)) (getD ones c 0 ∷ []), ← append-assoc, ← e, add-one c)
     (take-suc-set zeros c (here ∖ getD ones c 0) j)
 
 -- ---- the tokens
@@ -179,6 +179,7 @@ module _ {text : List ℕ} {k : Book} {r : Reading} (h : Holds text k r) where
     comma-taken last e =
         let b = h .bracketed in
         let stands = rw (filled-last (k .filled) (r .depth) last e) at (after-subtree subtree) in
+        let filled-now = filled-more (k .filled) true last (r .depth) e (omega (arith, b .filled-room, b .nested)) in
         record {
           placed = h .placed;
           bracketed = record {
@@ -192,7 +193,7 @@ module _ {text : List ℕ} {k : Book} {r : Reading} (h : Holds text k r) where
             has-opened = b .has-opened;
           };
           zeros-room = h .zeros-room;
-          stands = rw (← s .after, filled-more (k .filled) true last (r .depth) e (omega (arith, b .filled-room, b .nested))) (goes-to-next stands (s .inside) (s .is) refl);
+          stands = rw (← s .after, filled-now) (goes-to-next stands (s .inside) (s .is) refl);
         }
 
   -- An opening bracket.
@@ -212,7 +213,9 @@ module _ {text : List ℕ} {k : Book} {r : Reading} (h : Holds text k r) where
           (rw (columns-there, le-ltb 256 (r .columns + r .opened) fit, length-brackets (k .index) (k .before) (r .depth), e))
 
       pub left-taken : r .depth < 64
-          → Holds text (withBrackets k (cladePut (k .ones) (r .columns) (r .opened) 0) (set (k .index) (r .depth) (r .opened)) (set (k .before) (r .depth) (r .here)) (set (k .filled) (r .depth) false)) (record {
+          → Holds text
+          (withBrackets k (cladePut (k .ones) (r .columns) (r .opened) 0) (set (k .index) (r .depth) (r .opened))
+          (set (k .before) (r .depth) (r .here)) (set (k .filled) (r .depth) false)) (record {
             at = next;
             ended = false;
             finished = r .finished;
@@ -225,11 +228,16 @@ module _ {text : List ℕ} {k : Book} {r : Reading} (h : Holds text k r) where
       unfolding wrongs keep
       left-taken l =
           let b = h .bracketed in
-          let few : length (take (r .columns) (k .ones)) ≡ r .columns = columns-there in
           let goes-on : note (ledgerIn text k r) (sign left) ≡ goes (opening (ledgerIn text k r)) =
-          rw (few, le-ltb 256 (r .columns + r .opened) fit, length-brackets (k .index) (k .before) (r .depth), le-ltb 63 (r .depth) (omega arith))
+          rw (columns-there, le-ltb 256 (r .columns + r .opened) fit, length-brackets (k .index) (k .before) (r .depth), le-ltb 63 (r .depth) (omega arith))
           in
           let stands = opens (at-subtree subtree) (s .inside) (s .is) goes-on in
+          let filled-now = filled-more (k .filled) false (r .depth) (r .depth + 1) refl (omega (arith, b .filled-room)) in
+          let index-fits : r .depth < length (k .index) = omega (arith, b .index-room) in
+          let before-fits : r .depth < length (k .before) = omega (arith, b .before-room) in
+          let brackets-now = brackets-more (k .index) (k .before) (r .opened) (r .here) (r .depth) (r .depth + 1) refl index-fits before-fits in
+          let columns-now = columns-kept (k .ones) (r .columns) (r .opened) 0 in
+          let clades-now = clades-more (k .ones) (r .columns) (r .opened) (omega (arith, b .ones-room)) in
           record {
             placed = h .placed;
             bracketed = record {
@@ -245,7 +253,7 @@ module _ {text : List ℕ} {k : Book} {r : Reading} (h : Holds text k r) where
                   (rw (getD-set-same (k .index) (r .depth) (r .opened) 0 (omega (arith, b .index-room))) (omega arith));
             };
             zeros-room = h .zeros-room;
-            stands = rw (← s .after, filled-more (k .filled) false (r .depth) (r .depth + 1) refl (omega (arith, b .filled-room)), columns-kept (k .ones) (r .columns) (r .opened) 0, brackets-more (k .index) (k .before) (r .opened) (r .here) (r .depth) (r .depth + 1) refl (omega (arith, b .index-room)) (omega (arith, b .before-room)), more-less (r .opened), clades-more (k .ones) (r .columns) (r .opened) (omega (arith, b .ones-room)), one-up (r .opened)) stands;
+            stands = rw (← s .after, filled-now, columns-now, brackets-now, more-less (r .opened), clades-now, add-one (r .opened)) stands;
           }
 
   -- A closing bracket.
@@ -259,7 +267,9 @@ module _ {text : List ℕ} {k : Book} {r : Reading} (h : Holds text k r) where
       right-too-soon f = closes-one (rw (filled-last (k .filled) (r .depth) last e, f) at (after-subtree subtree)) (s .inside) (s .is)
 
       pub right-taken : getD (k .filled) last false ≡ true
-          → Holds text (withBrackets k (cladePut (k .ones) (r .columns) (getD (k .index) last 0) (r .here ∖ getD (k .before) last 0)) (k .index) (k .before) (k .filled)) (record {
+          → Holds text
+          (withBrackets k (cladePut (k .ones) (r .columns) (getD (k .index) last 0) (r .here ∖ getD (k .before) last 0)) (k .index) (k .before) (k .filled))
+          (record {
             at = next;
             ended = true;
             finished = r .finished;
@@ -274,6 +284,8 @@ module _ {text : List ℕ} {k : Book} {r : Reading} (h : Holds text k r) where
           let b = h .bracketed in
           let i = getD (k .index) last 0 in
           let clade = r .here ∖ getD (k .before) last 0 in
+          let columns-now = columns-kept (k .ones) (r .columns) i clade in
+          let clades-now = clade-set (k .ones) (r .columns) (r .opened) i clade (b .has-opened last (omega arith)) in
           let at-last = rw (filled-last (k .filled) (r .depth) last e, f, brackets-last (k .index) (k .before) (r .depth) last e) at (after-subtree subtree) in
           record {
             placed = h .placed;
@@ -288,8 +300,7 @@ module _ {text : List ℕ} {k : Book} {r : Reading} (h : Holds text k r) where
               has-opened = λ j l. b .has-opened j (omega arith);
             };
             zeros-room = h .zeros-room;
-            stands = rw (← s .after, columns-kept (k .ones) (r .columns) i clade, clade-set (k .ones) (r .columns) (r .opened) i clade (b .has-opened last (omega arith)))
-                (closes at-last (s .inside) (s .is) refl);
+            stands = rw (← s .after, columns-now, clades-now) (closes at-last (s .inside) (s .is) refl);
           }
 
   -- A semicolon.
@@ -327,7 +338,8 @@ module _ {text : List ℕ} {k : Book} {r : Reading} (h : Holds text k r) where
             has-opened = λ j l. absurd (omega arith);
           };
           zeros-room = room;
-          stands = rw (← s .after, new, size, f, take-add (r .columns) (r .opened - 1) (k .ones)) (finishes (rw e at (after-subtree subtree)) (s .inside) (s .is) refl);
+          stands = rw (← s .after, new, size, f, take-add (r .columns) (r .opened - 1) (k .ones))
+              (finishes (rw e at (after-subtree subtree)) (s .inside) (s .is) refl);
         }
 
   -- A name.
@@ -382,38 +394,49 @@ module _ {text : List ℕ} {k : Book} {r : Reading} (h : Holds text k r) where
             let all : r .taxa ≡ 64 = omega (arith, new, h .placed .few) in
             name-refused (at-subtree subtree) run some short (rw (fits, unknown, length-names text (k .starts) (k .sizes) (r .taxa), all))
 
-        start-kept : (j : ℕ) → j < i → getD (set (k .starts) i (r .at)) j 0 ≡ getD (k .starts) j 0
+        abbrev starts-now : List ℕ
+        starts-now = set (k .starts) i (r .at)
+
+        abbrev sizes-now : List ℕ
+        sizes-now = set (k .sizes) i (end - r .at)
+
+        start-kept : (j : ℕ) → j < i → getD starts-now j 0 ≡ getD (k .starts) j 0
         start-kept j b = getD-set-other (k .starts) i j (r .at) 0 (λ q. absurd (omega arith))
 
-        size-kept : (j : ℕ) → j < i → getD (set (k .sizes) i (end - r .at)) j 0 ≡ getD (k .sizes) j 0
+        size-kept : (j : ℕ) → j < i → getD sizes-now j 0 ≡ getD (k .sizes) j 0
         size-kept j b = getD-set-other (k .sizes) i j (end - r .at) 0 (λ q. absurd (omega arith))
 
-        start-new : i < 64 → getD (set (k .starts) i (r .at)) i 0 ≡ r .at
+        start-new : i < 64 → getD starts-now i 0 ≡ r .at
         start-new f = getD-set-same (k .starts) i (r .at) 0 (omega (arith, h .placed .starts-room))
 
-        size-new : i < 64 → getD (set (k .sizes) i (end - r .at)) i 0 ≡ end - r .at
+        size-new : i < 64 → getD sizes-now i 0 ≡ end - r .at
         size-new f = getD-set-same (k .sizes) i (end - r .at) 0 (omega (arith, h .placed .sizes-room))
 
-        pub name-new : i < 64 → Holds text (withNames k (set (k .starts) i (r .at)) (set (k .sizes) i (end - r .at))) (withName r end (i + 1) i)
+        pub name-new : i < 64 → Holds text (withNames k starts-now sizes-now) (withName r end (i + 1) i)
         unfolding wrongs keep
         name-new f =
+            let p = h .placed in
             let room : r .taxa ≤ 63 = omega (arith, new) in
             let goes-on : note before-it (word read) ≡ goes (entering before-it read) =
             rw (fits, unknown, length-names text (k .starts) (k .sizes) (r .taxa), le-ltb 63 (r .taxa) room)
             in
+            let starts-fit : r .taxa < length (k .starts) = omega (arith, p .starts-room) in
+            let sizes-fit : r .taxa < length (k .sizes) = omega (arith, p .sizes-room) in
+            let taxa-now = names-more text (k .starts) (k .sizes) (r .at) (end - r .at) (r .taxa) starts-fit sizes-fit in
             let stands = rw (unknown, ← e) at (names (at-subtree subtree) run some short goes-on) in
             record {
               placed = record {
-                starts-room = length-set (k .starts) i (r .at) ∙ h .placed .starts-room;
-                sizes-room = length-set (k .sizes) i (end - r .at) ∙ h .placed .sizes-room;
+                starts-room = length-set (k .starts) i (r .at) ∙ p .starts-room;
+                sizes-room = length-set (k .sizes) i (end - r .at) ∙ p .sizes-room;
                 few = omega arith;
-                inside = one-further (λ j. getD (set (k .starts) i (r .at)) j 0 + getD (set (k .sizes) i (end - r .at)) j 0 ≤ length text)
-                    (λ j b. rw (start-kept j b, size-kept j b) (h .placed .inside j (omega (arith, new)))) (rw (start-new f, size-new f) (omega (arith, run .within)));
-                short = one-further (λ j. getD (set (k .sizes) i (end - r .at)) j 0 ≤ 32) (λ j b. rw (size-kept j b) (h .placed .short j (omega (arith, new)))) (rw (size-new f) short);
+                inside = one-further (λ j. getD starts-now j 0 + getD sizes-now j 0 ≤ length text)
+                    (λ j b. rw (start-kept j b, size-kept j b) (p .inside j (omega (arith, new))))
+                    (rw (start-new f, size-new f) (omega (arith, run .within)));
+                short = one-further (λ j. getD sizes-now j 0 ≤ 32) (λ j b. rw (size-kept j b) (p .short j (omega (arith, new)))) (rw (size-new f) short);
               };
               bracketed = h .bracketed;
               zeros-room = h .zeros-room;
-              stands = rw (new, names-more text (k .starts) (k .sizes) (r .at) (end - r .at) (r .taxa) (omega (arith, h .placed .starts-room)) (omega (arith, h .placed .sizes-room))) (rw new at stands);
+              stands = rw (new, taxa-now) (rw new at stands);
             }
 
 -- ---- the text
@@ -441,16 +464,25 @@ begins text k room = record {
     has-opened = λ j l. absurd (omega arith);
   };
   zeros-room = room .zeros-room;
-  stands = standing.starts;
+  stands = starts;
 }
 
 module _ {text : List ℕ} {k : Book} {r : Reading} (h : Holds text k r) where
   -- The blanks between two tokens.
   pub blanks-passed : {end : ℕ} → Run isBlank text (r .at) end
-      → Holds text k (record { at = end; ended = r .ended; finished = r .finished; taxa = r .taxa; columns = r .columns; here = r .here; opened = r .opened; depth = r .depth })
+      → Holds text k (record {
+        at = end;
+        ended = r .ended;
+        finished = r .finished;
+        taxa = r .taxa;
+        columns = r .columns;
+        here = r .here;
+        opened = r .opened;
+        depth = r .depth;
+      })
   blanks-passed run = record { placed = h .placed; bracketed = h .bracketed; zeros-room = h .zeros-room; stands = skips (h .stands) run }
 
-  -- The file's end.
+  -- The end of the text.
   module _ (end : r .at ≡ length text) where
     pub end-after-subtree : r .ended ≡ true → outcome text ≡ refused 16 (r .at)
     end-after-subtree e = ends-unfinished (after-subtree h e) (omega arith)

@@ -4,3 +4,7 @@ pub mod Names
 pub mod Lists
 pub mod Book
 pub mod Finding
+-- What reading promises.
+pub mod Taken
+pub mod Promises
+pub mod Specimens

@@ -13,10 +13,10 @@ use Rattle.record.specs.Records.{recordOf, openingOf, recordBytes}
 use Rattle.record.proofs.Files.{length-opening, opening-only}
 use Rattle.grammar.specs.Columns.{Bytes}
 use Rattle.grammar.specs.inner.Standing.{piece}
+use Rattle.grammar.proofs.Standing.{piece-length}
 use Rattle.names.specs.Names.{nameBytes, namesBytes, listOf, listLength}
 use Rattle.names.proofs.Lists.{names-append, length-list}
 use Rattle.newick.specs.inner.Names.{Placed, namesIn}
-use Rattle.grammar.proofs.Standing.{piece-length}
 
 -- ---- records
 

@@ -1,4 +1,4 @@
--- Names in a text: the number of a name as a loop finds it (`found`, `not-found`).
+-- Names in a text: the number of a name as a loop finds it (`found`, `not-found`), and one name more (`names-more`).
 use mathlib.Core.Path.{_≡_, refl, sym, ap, _∙_, subst}
 use mathlib.Core.Bool.{Bool, true, false, cond}
 use mathlib.Core.Logic.{⊎-elim}
@@ -20,7 +20,7 @@ one-further P before here j l = ⊎-elim (λ e. subst P (sym e) here) (before j)
 
 -- ---- pieces
 
--- A part of a text that is lent from a place to another.
+-- What is lent of a text, from a place to another.
 pub whole-piece : (text : List ℕ) (a k : ℕ) → take (a + k - a) (drop a text) ≡ piece text a k
 whole-piece text a k = let size : a + k - a ≡ k = omega arith in rw size
 
@@ -54,7 +54,7 @@ unfolding namesIn
 length-names text starts sizes zero = refl
 length-names text starts sizes (suc n) = length-append (namesIn text starts sizes n) _ ∙ omega (arith, length-names text starts sizes n)
 
-pub name-in : (text starts sizes : List ℕ) (n i : ℕ) → i < n → getD (namesIn text starts sizes n) i [] ≡ piece text (getD starts i 0) (getD sizes i 0)
+name-in : (text starts sizes : List ℕ) (n i : ℕ) → i < n → getD (namesIn text starts sizes n) i [] ≡ piece text (getD starts i 0) (getD sizes i 0)
 unfolding namesIn
 name-in text starts sizes zero i l = absurd (omega arith)
 name-in text starts sizes (suc n) i l =
@@ -86,7 +86,8 @@ module _ (text starts sizes : List ℕ) (n : ℕ) (m : Bytes) where
 
   pub found : (i : ℕ) → i < n → Others i → equal m (piece text (getD starts i 0) (getD sizes i 0)) ≡ true → i ≡ number (namesIn text starts sizes n) m
   found i l o e =
-      number-here (namesIn text starts sizes n) m i (omega (arith, length-names text starts sizes n)) (λ j k. rw (name-in text starts sizes n j (omega arith)) (o j k))
+      number-here (namesIn text starts sizes n) m i (omega (arith, length-names text starts sizes n))
+      (λ j k. rw (name-in text starts sizes n j (omega arith)) (o j k))
       (rw (name-in text starts sizes n i l) e)
 
   pub not-found : Others n → n ≡ number (namesIn text starts sizes n) m

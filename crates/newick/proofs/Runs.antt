@@ -35,4 +35,7 @@ module _ {test : ℕ → Bool} {text : List ℕ} {from at : ℕ} where
 -- A run from a byte that meets the test has a byte.
 pub some-run : {test : ℕ → Bool} {text : List ℕ} {from to : ℕ} → Run test text from to → from < length text → test (getD text from 0) ≡ true → from < to
 some-run {test} {text} run l e =
-    ⊎-elim (λ f. absurd (true≢false (sym e ∙ subst (λ (i : ℕ). test (getD text i 0) ≡ false) (sym f) (run .stops (omega arith))))) (λ b. b) (eq-or-lt-of-le (run .up))
+    ⊎-elim
+    (λ f. absurd (true≢false (sym e ∙ subst (λ (i : ℕ). test (getD text i 0) ≡ false) (sym f) (run .stops (omega arith)))))
+    (λ b. b)
+    (eq-or-lt-of-le (run .up))

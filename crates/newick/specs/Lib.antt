@@ -1,3 +1,4 @@
 -- Reading source trees.
 pub mod Read
+pub mod Held
 pub mod inner

@@ -33,7 +33,8 @@ abbrev pub nameList : Verdict Tally → List ℕ
 nameList (accepted ts x) = listOf (x .taxa)
 nameList (refused number place) = []
 
--- The text's refusals come first, then 10, "shorter than what goes into it"; `room` and `space` are the lengths of the outputs for the matrix and for the names.
+-- The text's refusals come first, then 10, "shorter than what goes into it"; `room` and `space` are the lengths of the outputs, for the matrix and
+-- for the names.
 unfoldable pub answered : Verdict Tally → ℕ → ℕ → Derived
 answered (refused number place) room space = Refused (records.refused number place)
 answered (accepted ts x) room space =

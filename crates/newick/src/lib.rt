@@ -15,8 +15,9 @@ ghost use Rattle.newick.specs.Read.{Reads};
 ghost use Rattle.newick.specs.inner.Book.{book, Roomy};
 ghost use Rattle.newick.specs.inner.Found.{Found};
 
-// Where the reader stands between two tokens, and what it has counted. Of the file: whether a tree is finished, how many taxa and columns. Of the tree:
-// its names, how many brackets have opened, and how many of these are open.
+// Where the reader stands between two tokens, whether a subtree has just ended there, and what it has counted. Of the file: whether a tree is finished,
+// how many taxa, and how many columns in the trees that are finished. Of the tree that is read: its names, how many brackets have opened, and how many
+// of these are open.
 pub struct Reading {
     pub at: usize,
     pub ended: bool,
@@ -40,6 +41,7 @@ pub enum Derived {
     Refused(Refusal),
 }
 
+// An output is shorter than what goes into it.
 fn no_room() -> Derived
     ensures { λ r. ⌜ r ≡ derived.Refused (records.refused 10 0) ⌝ }
 {

@@ -24,6 +24,7 @@ pub fn list_length(sizes: &[usize; 64], n: usize) -> usize
     length
 }
 
+// The record of the name that stands at a place.
 fn put_name(out: &mut [u8], text: &[u8], start: usize, size: usize)
     requires { ⌜ (start + size ≤ length (now text)) × (size ≤ 32) × (4 + size ≤ length (now out)) ⌝ }
     ensures { λ _. ⌜ now (out .exit) ≡ over (nameBytes (piece (now (text .entry)) start size)) 0 (now (out .entry)) ⌝ }

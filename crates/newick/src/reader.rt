@@ -33,7 +33,7 @@ fn past_blanks(text: &[u8], from: Reading) -> Reading
     }
 }
 
-// The text ends here: it may, behind a tree.
+// The end of the text: it may come behind a finished tree, before another begins.
 fn take_end(from: Reading) -> Stepped
     ensures { λ s. ⌜ ((text : List ℕ) (k : Book) → Holds text k from → from .at ≡ length text → Ends text k s) ⌝ }
 {
@@ -63,7 +63,8 @@ pub fn read_text(
     requires { ⌜ Roomy (book (now starts) (now sizes) (now ones) (now zeros) (now index) (now before) (now filled)) ⌝ }
     ensures { λ s. ⌜
         Ends (now (text .entry))
-        (book (now (starts .exit)) (now (sizes .exit)) (now (ones .exit)) (now (zeros .exit)) (now (index .exit)) (now (before .exit)) (now (filled .exit))) s ⌝ }
+        (book (now (starts .exit)) (now (sizes .exit)) (now (ones .exit)) (now (zeros .exit)) (now (index .exit)) (now (before .exit)) (now (filled .exit)))
+        s ⌝ }
 {
     let mut here = past_blanks(
         text,

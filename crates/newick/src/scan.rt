@@ -47,7 +47,7 @@ fn same_names(text: &[u8], a: usize, size: usize, b: usize, other: usize) -> boo
     names::same(&text[a..a + size], &text[b..b + other])
 }
 
-// The number of a name among the first n taxa, or n.
+// The number of a name among the first n taxa, or n where it is none of theirs.
 pub fn number_of(
     text: &[u8],
     starts: &[usize; 64],

@@ -91,7 +91,7 @@ fn take_name(
     Stepped::On(behind_name(from, end, i + 1, i))
 }
 
-// The clade of the tree's bracket number i, which stands after the columns; the first bracket, the root, gives no column.
+// Puts the clade of the tree's bracket number i after the columns of the trees that are finished; the first bracket, the root, gives no column.
 fn put_clade(ones: &mut [u64; 256], columns: usize, i: usize, clade: u64)
     requires { ⌜ (length (now ones) ≡ 256) × (columns + i ≤ 256) ⌝ }
     ensures { λ _. ⌜ now (ones .exit) ≡ cladePut (now (ones .entry)) columns i clade ⌝ }

@@ -6,4 +6,5 @@ pub mod Accepted
 pub mod Whole
 pub mod Writing
 pub mod Promises
+pub mod Places
 pub mod Specimens

@@ -13,6 +13,13 @@ use Rattle.tree.specs.declared.Built.{Built}
 use Rattle.tree.specs.declared.Built.the-variants as builds
 use Rattle.score.specs.declared.Scored.{Scored}
 use Rattle.score.specs.declared.Scored.the-variants as scores
+use Rattle.names.specs.declared.Listed.{Listed}
+use Rattle.names.specs.declared.Listed.the-variants as lists
+use Rattle.newick.specs.declared.Derived.{Derived}
+use Rattle.newick.specs.declared.Derived.the-variants as derived
+use Rattle.spelling.specs.declared.Spelled.{Spelled}
+use Rattle.spelling.specs.declared.Spelled.the-variants as spelled
+use Rattle.flipcut.specs.Packed.{told}
 
 -- A refusal.
 abbrev pub RefusalFits : Refusal → Type 0
@@ -47,3 +54,18 @@ WriteFits (written.Refused why) = RefusalFits why
 abbrev pub ScoreFits : Scored → Type 0
 ScoreFits (scores.Taken up down) = (up .0 < 2 ^ 31) × (down .0 < 2 ^ 31)
 ScoreFits (scores.Refused why) = RefusalFits why
+
+-- What the check of a name list answers.
+abbrev pub NamesFit : Listed → Type 0
+NamesFit (lists.Taken count) = count < 2 ^ 63
+NamesFit (lists.Refused why) = RefusalFits (told why)
+
+-- What reading source trees answers.
+abbrev pub TreesFit : Derived → Type 0
+TreesFit (derived.Taken matrix names) = (matrix < 2 ^ 31) × (names < 2 ^ 32)
+TreesFit (derived.Refused why) = RefusalFits (told why)
+
+-- What writing as Newick answers.
+abbrev pub TextFits : Spelled → Type 0
+TextFits (spelled.Length size) = size < 2 ^ 31
+TextFits (spelled.Refused why) = RefusalFits (told why)

@@ -5,10 +5,10 @@ use Rattle.newick.proofs.read_with.Statement.{statement}
 use Rattle.newick.proofs.read_with.Tie as tie
 
 write-found-requires : tie.Need-write-found-requires
-write-found-requires c κs = let (h, ts, e) = rw (c .before .before .before .before .before .before .before .last .given .1) at (c .before .before .before .before .before .before .before .before .before .read-text .ensures) in found h e
-
-returns : tie.Need-returns
-returns c = search needs
+write-found-requires c κs =
+    let on = c .before .before .before .before .before .before .before in
+    let (h, ts, e) = rw (on .last .given .1) at (on .before .before .read-text .ensures) in
+    found h e
 
 returns-2 : tie.Need-returns-2
 returns-2 c = told _ _ _ (rw (c .before .last2 .given .1) at (c .before .before .before .read-text .ensures))
@@ -23,5 +23,5 @@ read-with-spec =
     (λ c. search needs)
     (λ c. search needs)
     (λ c. search needs)
-    returns
+    (λ c. search needs)
     returns-2)

@@ -10,19 +10,24 @@ returns c = rw (c .no-room .ensures) (short-file (c .before .before .before .bef
 
 returns-2 : tie.Need-returns-2
 returns-2 c =
-    let pre = c .before .before .before .before .before .before .before .pre in
-    rw (c .no-room2 .ensures) (short-list pre _ _ (search needs) (omega (arith, c .before .before .before .list-length .ensures _ _ (pre .placed))))
+    let counted = c .before .before .before in
+    let pre = counted .before .before .before .before .pre in
+    rw (c .no-room2 .ensures) (short-list pre _ _ (search needs) (omega (arith, counted .list-length .ensures _ _ (pre .placed))))
 
 put-list-requires : tie.Need-put-list-requires
 put-list-requires c κs =
-    let pre = c .before .before .before .before .before .before .before .before .before .before .before .pre in
-    ((pre .placed, pre .placed .short), omega (arith, c .before .before .before .before .before .before .before .list-length .ensures _ _ (pre .placed)))
+    let counted = c .before .before .before .before .before .before .before in
+    let pre = counted .before .before .before .before .pre in
+    ((pre .placed, pre .placed .short), omega (arith, counted .list-length .ensures _ _ (pre .placed)))
 
 returns-3 : tie.Need-returns-3
 returns-3 c =
-    let pre = c .before .before .before .before .before .before .before .before .before .before .before .before .before .before .pre in
-    let size = c .before .before .before .before .before .before .before .before .before .before .list-length .ensures _ _ (pre .placed) in
-    rw (size, c .before .before .before .before .before .before .put-matrix .ensures, c .before .before .put-list .ensures) (both-written pre _ _ (search needs) (omega arith))
+    let list = c .before .before in
+    let matrix = list .before .before .before .before in
+    let counted = matrix .before .before .before .before in
+    let pre = counted .before .before .before .before .pre in
+    let size = counted .list-length .ensures _ _ (pre .placed) in
+    rw (size, matrix .put-matrix .ensures, list .put-list .ensures) (both-written pre _ _ (search needs) (omega arith))
 
 pub write-found-spec : {M : Type 1} → statement M
 write-found-spec =

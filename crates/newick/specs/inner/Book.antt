@@ -49,7 +49,7 @@ unfoldable pub bracketsIn : List ℕ → List ℕ → ℕ → List Opened
 bracketsIn index before zero = []
 bracketsIn index before (suc d) = record { index = getD index d 0; before = getD before d 0 } ∷ bracketsIn index before d
 
--- For each of them, the last first: a subtree in it is finished.
+-- For each of these, the last first: whether a subtree in it is finished, with a comma behind it.
 unfoldable pub filledIn : List Bool → ℕ → List Bool
 filledIn filled zero = []
 filledIn filled (suc d) = getD filled d false ∷ filledIn filled d

@@ -13,7 +13,8 @@ use Rattle.newick.proofs.reader.read_text.Tie as tie
 
 abbrev Inv-loop : tie.InvT-loop
 Inv-loop text starts₀ sizes₀ ones₀ zeros₀ index₀ before₀ filled₀ here₀ starts sizes ones zeros index before filled here =
-    Holds text (book starts sizes ones zeros index before filled) here × (here .at ≤ length text) × (here .at < length text → isBlank (getD text (here .at) 0) ≡ false)
+    Holds text (book starts sizes ones zeros index before filled) here × (here .at ≤ length text)
+    × (here .at < length text → isBlank (getD text (here .at) 0) ≡ false)
 
 abbrev μ-loop : tie.MeasureT-loop
 μ-loop text starts₀ sizes₀ ones₀ zeros₀ index₀ before₀ filled₀ here₀ starts sizes ones zeros index before filled here = length text - here .at
@@ -22,13 +23,9 @@ loop-holds : tie.Need-loop-holds Inv-loop μ-loop
 loop-holds c = let p = c .past-blanks .ensures in (p .3 _ (begins _ _ (c .before .before .pre)), p .0, p .2)
 
 take-token-requires : tie.Need-take-token-requires Inv-loop μ-loop
-take-token-requires c κs = let l = c .before .before .before .before .before .before .before .before .before .loop in (l .inv .0, search needs, l .inv .2 (search needs))
-
-enum-known-next : tie.Need-enum-known-next Inv-loop μ-loop
-enum-known-next c = search needs
-
-enum-told : tie.Need-enum-told Inv-loop μ-loop
-enum-told c = search needs
+take-token-requires c κs =
+    let l = c .before .before .before .before .before .before .before .before .before .loop in
+    (l .inv .0, search needs, l .inv .2 (search needs))
 
 returns : tie.Need-returns Inv-loop μ-loop
 returns c = rw (c .enum-told .given .1) (rw (c .enum-told .given .1) at (c .before .before .take-token .ensures))
@@ -60,8 +57,8 @@ read-text-spec =
     (λ c κs. search needs)
     loop-holds
     take-token-requires
-    enum-known-next
-    enum-told
+    (λ c. search needs)
+    (λ c. search needs)
     returns
     past-blanks-requires-2
     loop-less

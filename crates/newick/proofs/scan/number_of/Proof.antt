@@ -31,9 +31,10 @@ returns c =
 loop-again : tie.Need-loop-again Inv-loop μ-loop
 loop-again c =
     let l = c .before .before .before .before .before .loop in
-    let a = c .before .before .before .before .before .before .before .args in (
+    let a = c .before .before .before .before .before .before .before .args in
+    let text = a .text .now in (
       search needs,
-      one-further (λ j. equal (piece (a .text .now) (a .at) (a .size)) (piece (a .text .now) (getD (a .starts .now) j 0) (getD (a .sizes .now) j 0)) ≡ false) (l .inv .1)
+      one-further (λ j. equal (piece text (a .at) (a .size)) (piece text (getD (a .starts .now) j 0) (getD (a .sizes .now) j 0)) ≡ false) (l .inv .1)
           (sym (c .before .same-names .ensures) ∙ c .if1 .left),
     )
 

@@ -20,12 +20,10 @@ abbrev μ-loop : tie.MeasureT-loop
 loop-again : tie.Need-loop-again Inv-loop μ-loop
 loop-again c =
     let l = c .before .before .before .loop in
-    let a = c .before .before .before .before .args in (
-      search needs,
-      search needs,
-      search needs,
-      rw (c .difference .ensures) (zero-more (a .ones .now) (l .zeros) (take (a .first) (a .zeros .now)) (a .here) (a .first) (l .c) (search needs) (search needs) (search needs) (l .inv .3)),
-    )
+    let a = c .before .before .before .before .args in
+    let kept = take (a .first) (a .zeros .now) in
+    let more = zero-more (a .ones .now) (l .zeros) kept (a .here) (a .first) (l .c) (search needs) (search needs) (search needs) (l .inv .3) in
+    (search needs, search needs, search needs, rw (c .difference .ensures) more)
 
 returns : tie.Need-returns Inv-loop μ-loop
 returns c =

@@ -1,46 +1,61 @@
 -- `newick::tokens::take_token` meets its contract: each token by its own function.
 use borrow.Author.Needs.{needs}
-use mathlib.Core.Path.{refl, sym, _∙_}
-use Rattle.newick.specs.inner.Book.{book}
+use mathlib.Core.Path.{_≡_, refl, sym, _∙_}
+use Prim.Native.Nat.{ℕ, _+_}
+use lib.ListN.{getD}
+use Rattle.newick.specs.inner.Book.{Book, book, SignAt}
 use Rattle.newick.proofs.Book.{wrong-after, wrong-before}
 use Rattle.newick.proofs.tokens.take_token.Statement.{statement}
 use Rattle.newick.proofs.tokens.take_token.Tie as tie
 
+-- The reader's lists before the token.
+abbrev lists : tie.Start → Book
+lists c =
+    let a = c .args in
+    book (a .starts .now) (a .sizes .now) (a .ones .now) (a .zeros .now) (a .index .now) (a .before .now) (a .filled .now)
+
+-- A token of one byte, a sign.
+sign-here : (c : tie.Start) {sign : ℕ} → getD (c .args .text .now) (c .args .from .at) 0 ≡ sign
+    → SignAt (c .args .text .now) (c .args .from .at) sign (c .args .from .at + 1)
+sign-here c e = record { inside = c .pre .1; is = e; after = refl }
+
 returns : tie.Need-returns
 returns c =
     let start = c .before .before .before .before .before .before .before .before .before in
-    let a = start .args in
-    c .take-right .ensures (a .text .now) (book (a .starts .now) (a .sizes .now) (a .ones .now) (a .zeros .now) (a .index .now) (a .before .now) (a .filled .now)) (start .pre .0) (search needs) (record { inside = start .pre .1; is = search needs; after = refl })
+    c .take-right .ensures (start .args .text .now) (lists start) (start .pre .0) (search needs) (sign-here start (search needs))
 
 returns-2 : tie.Need-returns-2
 returns-2 c =
     let start = c .before .before .before .before .before .before .before in
-    let a = start .args in
-    c .take-comma .ensures (a .text .now) (book (a .starts .now) (a .sizes .now) (a .ones .now) (a .zeros .now) (a .index .now) (a .before .now) (a .filled .now)) (start .pre .0) (search needs) (record { inside = start .pre .1; is = search needs; after = refl })
+    c .take-comma .ensures (start .args .text .now) (lists start) (start .pre .0) (search needs) (sign-here start (search needs))
 
 returns-3 : tie.Need-returns-3
 returns-3 c =
     let start = c .before .before .before .before .before .before .before .before .before in
-    let a = start .args in
-    c .take-semicolon .ensures (a .text .now) (book (a .starts .now) (a .sizes .now) (a .ones .now) (a .zeros .now) (a .index .now) (a .before .now) (a .filled .now)) (start .pre .0) (search needs) (record { inside = start .pre .1; is = search needs; after = refl })
+    c .take-semicolon .ensures (start .args .text .now) (lists start) (start .pre .0) (search needs) (sign-here start (search needs))
 
 returns-4 : tie.Need-returns-4
-returns-4 c = let start = c .before .before .before .before .before .before .before in rw (c .refused .ensures) (wrong-after (start .pre .0) (search needs) (start .pre .1) (start .pre .2) (search needs) (search needs) (search needs))
+returns-4 c =
+    let pre = c .before .before .before .before .before .before .before .pre in
+    rw (c .refused .ensures) (wrong-after (pre .0) (search needs) (pre .1) (pre .2) (search needs) (search needs) (search needs))
 
 returns-5 : tie.Need-returns-5
 returns-5 c =
     let start = c .before .before .before .before .before .before .before .before in
-    let a = start .args in
-    c .take-name .ensures (book (a .starts .now) (a .sizes .now) (a .ones .now) (a .zeros .now) (a .index .now) (a .before .now) (a .filled .now)) (start .pre .0) (search needs) (sym (c .before .before .before .before .is-letter .ensures) ∙ c .before .before .before .if5 .taken)
+    let tested = c .before .before .before in
+    c .take-name .ensures (lists start) (start .pre .0) (search needs) (sym (tested .before .is-letter .ensures) ∙ tested .if5 .taken)
 
 returns-6 : tie.Need-returns-6
 returns-6 c =
     let start = c .before .before .before .before .before .before .before .before .before .before .before in
-    let a = start .args in
-    c .take-left .ensures (a .text .now) (book (a .starts .now) (a .sizes .now) (a .ones .now) (a .zeros .now) (a .index .now) (a .before .now) (a .filled .now)) (start .pre .0) (search needs) (record { inside = start .pre .1; is = search needs; after = refl })
+    c .take-left .ensures (start .args .text .now) (lists start) (start .pre .0) (search needs) (sign-here start (search needs))
 
 returns-7 : tie.Need-returns-7
-returns-7 c = let start = c .before .before .before .before .before .before .before in rw (c .refused2 .ensures) (wrong-before (start .pre .0) (search needs) (start .pre .1) (start .pre .2) (sym (c .before .before .before .is-letter .ensures) ∙ c .before .before .if5 .left) (search needs))
+returns-7 c =
+    let tested = c .before .before in
+    let pre = tested .before .before .before .before .before .pre in
+    let no-letter = sym (tested .before .is-letter .ensures) ∙ tested .if5 .left in
+    rw (c .refused2 .ensures) (wrong-before (pre .0) (search needs) (pre .1) (pre .2) no-letter (search needs))
 
 pub take-token-spec : {M : Type 1} → statement M
 take-token-spec =
