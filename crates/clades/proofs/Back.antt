@@ -1,4 +1,4 @@
--- The text of a tree that shows an answer's groups reads back to that tree (`reads-back`), whose clades of names are the groups (`clade-group`, `group-clade` of Clades).
+-- The text of a tree that shows an answer's groups reads back to that tree (`reads-back`), whose clades of names are the groups (Exactly.antt).
 use mathlib.Core.Path.{_≡_, sym, subst}
 use mathlib.Core.List.{List, [], List·Memᴰ·not-nil}
 use Prim.Native.Nat.{ℕ, _≤_}
@@ -24,7 +24,8 @@ use Rattle.clades.specs.Clades.{NamesFor, Names}
 use Rattle.clades.proofs.Clades.{shown-names}
 use Rattle.clades.proofs.Sizes.{sizes, distinct}
 
-module _ {name : ℕ → Bytes} {gs : List ℕ} {n : ℕ} {t : Tree} (few : n ≤ 64) (lam : Laminar gs) (list : NamesFor name (all n)) (shows : Shows name gs (all n) t) where
+module _ {name : ℕ → Bytes} {gs : List ℕ} {n : ℕ} {t : Tree}
+    (few : n ≤ 64) (lam : Laminar gs) (list : NamesFor name (all n)) (shows : Shows name gs (all n) t) where
   nothing : Names name 0 []
   nothing = record { has = λ x. absurd (none x); only = λ l. absurd (List·Memᴰ·not-nil l) }
 
@@ -33,7 +34,8 @@ module _ {name : ℕ → Bytes} {gs : List ℕ} {n : ℕ} {t : Tree} (few : n �
   within =
       let z = sizes lam shows (all-fits 64 few) in record {
         short = λ m l. let (i, x, e) = shown-names shows .only l in subst (λ (w : Bytes). length w ≤ 32) (sym e) (list .short x);
-        once = limits.first (distinct lam (list .differ) shows (⊆-refl (all n)) nothing (record { sub = λ x. absurd (none x) }) (record { off = λ x. absurd (none x) }));
+        once = limits.first
+            (distinct lam (list .differ) shows (⊆-refl (all n)) nothing (record { sub = λ x. absurd (none x) }) (record { off = λ x. absurd (none x) }));
         few = omega (arith, seen-most [] (names t), z .all-names, count-le 64 (all n));
         columns = omega (arith, columns-few t, z .brackets, count-le 64 (all n));
         nested = omega (arith, z .deep, count-le 64 (all n));

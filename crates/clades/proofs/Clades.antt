@@ -1,7 +1,8 @@
 -- The clades of a tree that shows S are the groups inside S (`clade-group`, `group-clade`).
 use mathlib.Core.Path.{_≡_, refl, sym, ap, _∙_, subst}
 use mathlib.Core.Logic.{_⊎_, inl, inr, ⊎-elim}
-use mathlib.Core.List.{List, [], _∷_, _++_, List·Memᴰ, List·Memᴰ·head, List·Memᴰ·tail, List·Memᴰ·not-nil, List·Memᴰ·cases-cons, List·Memᴰ·append-cases, List·Memᴰ·eq-of-singleton, Memᴰ·append-left, Memᴰ·append-right}
+use mathlib.Core.List.{List, [], _∷_, _++_, List·Memᴰ, List·Memᴰ·head, List·Memᴰ·tail, List·Memᴰ·not-nil, List·Memᴰ·cases-cons}
+use mathlib.Core.List.{List·Memᴰ·append-cases, List·Memᴰ·eq-of-singleton, Memᴰ·append-left, Memᴰ·append-right}
 use Prim.Native.Nat.{ℕ, _^_}
 use native.Mathlib.Decide.{ℕ-discrete}
 use Rattle.taxa.specs.Sets.{_∈_, _⊆_, _∪_}
@@ -16,7 +17,11 @@ module _ {name : ℕ → Bytes} where
   pub names-∪ : {X Y : ℕ} {ns ms : List Bytes} → Names name X ns → Names name Y ms → Names name (X ∪ Y) (ns ++ ms)
   names-∪ {X} {Y} {ns} {ms} x y = record {
     has = λ l. ⊎-elim (λ h. Memᴰ·append-left ms (x .has h)) (λ h. Memᴰ·append-right ns (y .has h)) (in∪ X Y .0 l);
-    only = λ l. ⊎-elim (λ h. let (i, u, e) = x .only h in (i, in∪ X Y .1 (inl u), e)) (λ h. let (i, u, e) = y .only h in (i, in∪ X Y .1 (inr u), e)) (List·Memᴰ·append-cases ns l);
+    only = λ l.
+        ⊎-elim
+        (λ h. let (i, u, e) = x .only h in (i, in∪ X Y .1 (inl u), e))
+        (λ h. let (i, u, e) = y .only h in (i, in∪ X Y .1 (inr u), e))
+        (List·Memᴰ·append-cases ns l);
   }
 
   names-one : {S : ℕ} {n : Bytes} (i : ℕ) → S ≡ 2 ^ i → n ≡ name i → Names name S (n ∷ [])
@@ -46,7 +51,8 @@ module _ {name : ℕ → Bytes} where
       clade-group (taxon i e f) l = absurd (List·Memᴰ·not-nil l)
       clade-group {S} (group {ts = ts} g r o p t e) l =
           ⊎-elim (λ h. (S, g, ⊆-refl S, subst (Names name S) (sym h) (shown-names (group g r o p t e))))
-          (λ h. ⊎-elim (λ h. row-group r h) (λ h. let (G, a, b, n) = clade-group t h in (G, a, ⊆-trans b (p .inside), n)) (List·Memᴰ·append-cases (allClades ts) h))
+          (λ h.
+          ⊎-elim (λ h. row-group r h) (λ h. let (G, a, b, n) = clade-group t h in (G, a, ⊆-trans b (p .inside), n)) (List·Memᴰ·append-cases (allClades ts) h))
           (List·Memᴰ·cases-cons l)
 
       row-group : {S D : ℕ} {ts : Trees} {c : List Bytes} → Row name gs S D ts → List·Memᴰ c (allClades ts) → OfGroup name gs S c
@@ -65,7 +71,8 @@ module _ {name : ℕ → Bytes} where
           group-clade (taxon i e f) s = absurd (two i (rw e at s))
           group-clade {S} (group {D = D} {P = P} {ts = ts} {t = u} h r o p t e) s = go (ℕ-discrete G S) (λ n y. row-clade r s n y) (λ q. group-clade t q)
             where
-              go : Dec (G ≡ S) → ((G ≡ S → ⊥) → l ∈ D → HasClade name G (allClades ts)) → (G ⊆ P → HasClade name G (clades u)) → HasClade name G (clades (inner ts u))
+              go : Dec (G ≡ S) → ((G ≡ S → ⊥) → l ∈ D → HasClade name G (allClades ts)) → (G ⊆ P → HasClade name G (clades u))
+                  → HasClade name G (clades (inner ts u))
               go (yes f) a b = (allNames ts ++ names u, List·Memᴰ·head refl, rw f (shown-names (group h r o p t e)))
               go (no n) a b =
                   ⊎-elim (λ y. let (c, m, k) = a n y in (c, List·Memᴰ·tail (Memᴰ·append-left (clades u) m), k))

@@ -116,7 +116,8 @@ module _ (gs : List ℕ) {S : ℕ} (fits : S < 2 ^ 64) (two : 1 < count 64 S) wh
       let rest = parts-next (∖-⊆ S _) (some-more (p .inside) (p .proper)) in (_, _, _, parts-next (⊆-refl S) some ∙ ap (λ ps. part gs S (low 64 S) ∷ ps) rest)
 
   -- Two functions that are the same on smaller sets.
-  parts-same : {A : Type 0} {g h : ℕ → A} → ((P : ℕ) → P ⊆ S → count 64 P < count 64 S → g P ≡ h P) → (f : ℕ) {R : ℕ} → R ⊆ S → map g (parts gs S f R) ≡ map h (parts gs S f R)
+  parts-same : {A : Type 0} {g h : ℕ → A} → ((P : ℕ) → P ⊆ S → count 64 P < count 64 S → g P ≡ h P)
+      → (f : ℕ) {R : ℕ} → R ⊆ S → map g (parts gs S f R) ≡ map h (parts gs S f R)
   unfolding parts
   parts-same e zero s = refl
   parts-same {A} {g} {h} e (suc f) {R} s = go (ℕ-discrete R 0) (parts-same e f (⊆-trans (∖-⊆ R _) s))
@@ -147,7 +148,8 @@ module _ (name : ℕ → Bytes) (gs : List ℕ) where
   deep-enough (suc f) zero S s l m = alone-drawn (suc f) S (omega arith) ∙ sym (alone-drawn 0 S (omega arith))
   deep-enough (suc f) (suc g) S s l m = go (decLt 1 (count 64 S)) (λ P i h. deep-enough f g P (omega (arith, ⊆-≤ i)) (omega arith) (omega arith))
     where
-      go : Dec (1 < count 64 S) → ((P : ℕ) → P ⊆ S → count 64 P < count 64 S → draw name gs f P ≡ draw name gs g P) → draw name gs (suc f) S ≡ draw name gs (suc g) S
+      go : Dec (1 < count 64 S) → ((P : ℕ) → P ⊆ S → count 64 P < count 64 S → draw name gs f P ≡ draw name gs g P)
+          → draw name gs (suc f) S ≡ draw name gs (suc g) S
       go (yes two) h = more-drawn f S two ∙ ap joined (parts-same gs s two h 64 (⊆-refl S)) ∙ sym (more-drawn g S two)
       go (no n) h = alone-drawn (suc f) S (omega arith) ∙ sym (alone-drawn (suc g) S (omega arith))
 

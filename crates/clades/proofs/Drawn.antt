@@ -13,7 +13,8 @@ use Rattle.grammar.specs.Columns.{Bytes}
 use Rattle.clades.specs.Shows.{Groups, Lowest, Part, Shows, taxon, group, Row, first, next}
 use Rattle.clades.specs.Draw.{part, parts, bracket, joined, drawn}
 use Rattle.clades.proofs.Parts.{row-in}
-use Rattle.clades.proofs.Drawing.{alone, proper-<, nothing-more, some-more, Grows, takes, keeps, grows, piece, none-left, some-left, left-<, parts-next, drawn-taxon, drawn-group}
+use Rattle.clades.proofs.Drawing.{alone, proper-<, nothing-more, some-more, Grows, takes, keeps, grows, piece}
+use Rattle.clades.proofs.Drawing.{none-left, some-left, left-<, parts-next, drawn-taxon, drawn-group}
 
 -- The lowest taxon of what is left.
 lowest : {R : ℕ} → R < 2 ^ 64 → 0 < R → Lowest R (low 64 R)
@@ -80,7 +81,9 @@ module _ {gs : List ℕ} (gr : Groups gs) where
       less : (E Q : ℕ) {R : ℕ} → R ≡ S ∖ E → R ∖ Q ≡ S ∖ (E ∪ Q)
       less E Q e = rw e (ext
           (record { sub = λ x. let (a, q) = in∖ (S ∖ E) Q .0 x in let (s, n) = in∖ S E .0 a in in∖ S (E ∪ Q) .1 (s, λ y. ⊎-elim n q (in∪ E Q .0 y)) })
-          (record { sub = λ x. let (s, n) = in∖ S (E ∪ Q) .0 x in in∖ (S ∖ E) Q .1 (in∖ S E .1 (s, λ y. n (in∪ E Q .1 (inl y))), λ y. n (in∪ E Q .1 (inr y))) }))
+          (record {
+            sub = λ x. let (s, n) = in∖ S (E ∪ Q) .0 x in in∖ (S ∖ E) Q .1 (in∖ S E .1 (s, λ y. n (in∪ E Q .1 (inl y))), λ y. n (in∪ E Q .1 (inr y)));
+          }))
 
       -- A row that is not all of S, the last part, and nothing after it.
       row-ends : (f : ℕ) {D P i R : ℕ} {ts : Trees} → Row name gs S D ts → Lowest (S ∖ D) i → Part gs S i P → R ≡ S ∖ (D ∪ P) → R ≡ 0
@@ -101,12 +104,15 @@ module _ {gs : List ℕ} (gr : Groups gs) where
       unfolding bracket
       row-shows zero {D} {P} {R = R} r o p e l = row-ends 0 r o p e (count-zero 64 (omega (arith, gr .fits g, ⊆-≤ (left-in (D ∪ P) e))) (omega arith))
       row-shows (suc f) {D} {P} {i} {R} {ts} r o p e l =
-          go (ℕ-discrete R 0) (λ x. row-shows f (next r o p (shown p) refl) (next-lowest (D ∪ P) e x) (next-part (D ∪ P) e x) (less (D ∪ P) Q e) (omega (arith, left-< gs (gr .fits g) (gr .two g) (left-in (D ∪ P) e) x)))
+          go (ℕ-discrete R 0) (λ x.
+          row-shows f (next r o p (shown p) refl) (next-lowest (D ∪ P) e x) (next-part (D ∪ P) e x) (less (D ∪ P) Q e)
+          (omega (arith, left-< gs (gr .fits g) (gr .two g) (left-in (D ∪ P) e) x)))
         where
           Q : ℕ
           Q = part gs S (low 64 R)
 
-          go : Dec (R ≡ 0) → (0 < R → Shows name gs S (bracket (then ts (tree P)) (tree Q) (map tree (parts gs S f (R ∖ Q))))) → Shows name gs S (bracket ts (tree P) (map tree (parts gs S (suc f) R)))
+          go : Dec (R ≡ 0) → (0 < R → Shows name gs S (bracket (then ts (tree P)) (tree Q) (map tree (parts gs S f (R ∖ Q)))))
+              → Shows name gs S (bracket ts (tree P) (map tree (parts gs S (suc f) R)))
           go (yes z) ih = row-ends (suc f) r o p e z
           go (no n) ih = rw (some-left gs S f {R = R} (omega arith)) (ih (omega arith))
 

@@ -35,7 +35,8 @@ module _ {gs : List ℕ} (gr : Groups gs) where
   next-part : {S R i j P Q : ℕ} → Lowest R i → Lowest R j → Part gs S i P → Part gs S j Q → P ≡ Q
   next-part {S} {Q = Q} o o′ p q = part-only p (subst (λ (l : ℕ). Part gs S l Q) (lowest-only o′ o) q)
 
-  module _ {name : ℕ → Bytes} {S : ℕ} (g : List·Memᴰ S gs) (ih : (P : ℕ) (t u : Tree) → count 64 P < count 64 S → Shows name gs P t → Shows name gs P u → t ≡ u) where
+  module _ {name : ℕ → Bytes} {S : ℕ} (g : List·Memᴰ S gs)
+      (ih : (P : ℕ) (t u : Tree) → count 64 P < count 64 S → Shows name gs P t → Shows name gs P u → t ≡ u) where
     tree-same : {R i j P Q : ℕ} {t u : Tree} → Lowest R i → Lowest R j → Part gs S i P → Part gs S j Q → Shows name gs P t → Shows name gs Q u → t ≡ u
     tree-same {P = P} {t = t} {u = u} o o′ p q h k = ih P t u (part-< gr g p) h (subst (λ (X : ℕ). Shows name gs X u) (sym (next-part o o′ p q)) k)
 
@@ -44,7 +45,8 @@ module _ {gs : List ℕ} (gr : Groups gs) where
     row-same (first o p h) (first o′ q k) e = (next-part o o′ p q, ap one (tree-same o o′ p q h k))
     row-same (first o p h) (next {ts = us} r o′ q k f) e = absurd (omega (arith, some us))
     row-same (next {ts = ts} r o p h f) (first o′ q k) e = absurd (omega (arith, some ts))
-    row-same (next {D = D} {E = E} {P = P} {ts = ts} {t = t} r o p h f) (next {D = D′} {E = E′} {P = P′} {i = j} {ts = us} {t = u} r′ o′ q k f′) e = go (row-same r r′ (omega arith))
+    row-same (next {D = D} {E = E} {P = P} {ts = ts} {t = t} r o p h f) (next {D = D′} {E = E′} {P = P′} {i = j} {ts = us} {t = u} r′ o′ q k f′) e =
+        go (row-same r r′ (omega arith))
       where
         go : (D ≡ D′) × (ts ≡ us) → (E ≡ E′) × (then ts t ≡ then us u)
         go (a, b) =
@@ -68,7 +70,8 @@ module _ {gs : List ℕ} (gr : Groups gs) where
         go (no m) h = same (row-same r r′ (omega arith))
 
     -- A row that is not all of S is no longer.
-    no-longer : {D E i j P : ℕ} {ts us : Trees} → Row name gs S D ts → Lowest (S ∖ D) i → Part gs S i P → D ∪ P ≡ S → Row name gs S E us → Lowest (S ∖ E) j → size us ≤ size ts
+    no-longer : {D E i j P : ℕ} {ts us : Trees} → Row name gs S D ts → Lowest (S ∖ D) i → Part gs S i P → D ∪ P ≡ S
+        → Row name gs S E us → Lowest (S ∖ E) j → size us ≤ size ts
     no-longer {D} {E} {P = P} {ts = ts} {us = us} r o p e q o′ = go (decLt (size ts) (size us))
       where
         go : Dec (size ts < size us) → size us ≤ size ts
@@ -87,7 +90,8 @@ module _ {gs : List ℕ} (gr : Groups gs) where
   not-alone i g e = omega (arith, gr .two g, alone i e (gr .fits g))
 
   module _ {name : ℕ → Bytes} where
-    step : {S : ℕ} {t u : Tree} → ((P : ℕ) (t u : Tree) → count 64 P < count 64 S → Shows name gs P t → Shows name gs P u → t ≡ u) → Shows name gs S t → Shows name gs S u → t ≡ u
+    step : {S : ℕ} {t u : Tree} → ((P : ℕ) (t u : Tree) → count 64 P < count 64 S → Shows name gs P t → Shows name gs P u → t ≡ u)
+        → Shows name gs S t → Shows name gs S u → t ≡ u
     step ih (taxon i e a) (taxon j e′ b) = let c : j ≡ i = pow-in i (rw (← e, e′) (in-pow j)) in ap leaf (a ∙ ap name (sym c) ∙ sym b)
     step ih (taxon i e a) (group g r o p h k) = absurd (not-alone i g e)
     step ih (group g r o p h k) (taxon i e a) = absurd (not-alone i g e)

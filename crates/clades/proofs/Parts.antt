@@ -52,12 +52,20 @@ module _ {gs : List ℕ} (lam : Laminar gs) where
     cover {l = l} (next {S} {D} {E} {P} {i} r o p t e) x = go (cover r) (in∪ D P .0 (subst (λ (X : ℕ). l ∈ X) e x))
       where
         go : (l ∈ D → Covered gs S D l) → l ∈ D ⊎ l ∈ P → Covered gs S E l
-        go h (inl y) = let c = h y in record { taxon = c .taxon; part = c .part; is = c .is; has = c .has; inside = record { sub = λ z. rw e (in∪ D P .1 (inl (c .inside .sub z))) } }
+        go h (inl y) = let c = h y in record {
+          taxon = c .taxon;
+          part = c .part;
+          is = c .is;
+          has = c .has;
+          inside = record { sub = λ z. rw e (in∪ D P .1 (inl (c .inside .sub z))) };
+        }
         go h (inr y) = record { taxon = i; part = P; is = p; has = y; inside = record { sub = λ z. rw e (in∪ D P .1 (inr z)) } }
 
     -- The next part shares no taxon with those before it.
     pub apart : {S D i P : ℕ} {ts : Trees} → Row name gs S D ts → Lowest (S ∖ D) i → Part gs S i P → Disjoint D P
-    apart {S} {D} {i} r o p = record { off = λ x y. let c = cover r x in in∖ S D .0 (o .member) .1 (c .inside .sub (part-in p (c .is) y (c .has) .sub (p .member))) }
+    apart {S} {D} {i} r o p = record {
+      off = λ x y. let c = cover r x in in∖ S D .0 (o .member) .1 (c .inside .sub (part-in p (c .is) y (c .has) .sub (p .member)));
+    }
 
     -- What a row shows is inside S, and has a taxon.
     pub row-in : {S D : ℕ} {ts : Trees} → Row name gs S D ts → D ⊆ S

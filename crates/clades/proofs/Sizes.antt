@@ -27,7 +27,8 @@ pub record Sizes (S : ℕ) (ns : List Bytes) (cs : List (List Bytes)) (d : ℕ) 
   pub deep : d < count 64 S
 
 -- Two sets that share no taxon.
-join : {D P : ℕ} {ns ms : List Bytes} {cs es : List (List Bytes)} {d e : ℕ} → Disjoint D P → Sizes D ns cs d → Sizes P ms es e → Sizes (D ∪ P) (ns ++ ms) (cs ++ es) (max d e)
+join : {D P : ℕ} {ns ms : List Bytes} {cs es : List (List Bytes)} {d e : ℕ}
+    → Disjoint D P → Sizes D ns cs d → Sizes P ms es e → Sizes (D ∪ P) (ns ++ ms) (cs ++ es) (max d e)
 join {D} {P} {ns} {ms} {cs} {es} a x y = record {
   all-names = omega (arith, length-append ns ms, count-∪ 64 a, x .all-names, y .all-names);
   brackets = omega (arith, length-append cs es, count-∪ 64 a, x .brackets, y .brackets);
@@ -35,7 +36,8 @@ join {D} {P} {ns} {ms} {cs} {es} a x y = record {
 }
 
 -- .. in a bracket.
-enclose : {D P : ℕ} {ns ms c : List Bytes} {cs es : List (List Bytes)} {d e : ℕ} → Disjoint D P → Sizes D ns cs d → Sizes P ms es e → Sizes (D ∪ P) (ns ++ ms) (c ∷ (cs ++ es)) (suc (max d e))
+enclose : {D P : ℕ} {ns ms c : List Bytes} {cs es : List (List Bytes)} {d e : ℕ}
+    → Disjoint D P → Sizes D ns cs d → Sizes P ms es e → Sizes (D ∪ P) (ns ++ ms) (c ∷ (cs ++ es)) (suc (max d e))
 enclose {D} {P} {ns} {ms} {cs = cs} {es = es} a x y = record {
   all-names = omega (arith, length-append ns ms, count-∪ 64 a, x .all-names, y .all-names);
   brackets = omega (arith, length-append cs es, count-∪ 64 a, x .brackets, y .brackets);
@@ -77,7 +79,8 @@ module _ {name : ℕ → Bytes} {gs : List ℕ} (lam : Laminar gs) where
           (distinct t (⊆-trans (p .inside) s) (names-∪ x (row-names r)) (∪-⊆ u (⊆-trans (row-in lam r) s))
           (record { off = λ y z. ⊎-elim (λ q. d .off q (p .inside .sub z)) (λ q. h .off q z) (in∪ X D .0 y) }))
 
-      row-distinct : {X S D : ℕ} {ns : List Bytes} {ts : Trees} → Row name gs S D ts → S ⊆ A → Names name X ns → X ⊆ A → Disjoint X D → Distinct ns (allNames ts)
+      row-distinct : {X S D : ℕ} {ns : List Bytes} {ts : Trees} → Row name gs S D ts → S ⊆ A → Names name X ns → X ⊆ A → Disjoint X D
+          → Distinct ns (allNames ts)
       row-distinct (first o p t) s x u d = distinct t (⊆-trans (p .inside) s) x u d
       row-distinct {X} {S} {ns = ns} (next {D = D} {E = E} {P = P} {ts = ts} {t = v} r o p t e) s x u d =
           let h = apart lam r o p in

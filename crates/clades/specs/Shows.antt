@@ -36,7 +36,8 @@ module _ (name : ℕ → Bytes) (gs : List ℕ) where
     -- The tree shows S: a taxon by its name, or a group part by part.
     pub data Shows : ℕ → Tree → Type 0 where
       taxon : {S : ℕ} {n : Bytes} (i : ℕ) → S ≡ 2 ^ i → n ≡ name i → Shows S (leaf n)
-      group : {S D P i : ℕ} {ts : Trees} {t : Tree} → List·Memᴰ S gs → Row S D ts → Lowest (S ∖ D) i → Part gs S i P → Shows P t → D ∪ P ≡ S → Shows S (inner ts t)
+      group : {S D P i : ℕ} {ts : Trees} {t : Tree} → List·Memᴰ S gs → Row S D ts → Lowest (S ∖ D) i → Part gs S i P → Shows P t → D ∪ P ≡ S
+          → Shows S (inner ts t)
 
     -- The trees show the first parts of S, D together: the part of the lowest taxon, and then of the lowest that is left.
     pub data Row : ℕ → ℕ → Trees → Type 0 where

@@ -43,7 +43,9 @@ module _ {c : Content} (lawful : Lawful c) where
   lawful-root = go (decLt 1 (c .n))
     where
       go : Dec (1 < c .n) → List·Memᴰ (all (c .n)) (c .taxa) ⊎ ((i : ℕ) × (all (c .n) ≡ 2 ^ i))
-      go (yes two) = inl (rw (← lawful .groups-lawful .first-is-all two) (getD-in 0 (c .taxa) 0 (omega (arith, lawful .sized .taxa-sized, lawful .head-lawful .some-groups two))))
+      go (yes two) =
+          let some = lawful .head-lawful .some-groups two in
+          inl (rw (← lawful .groups-lawful .first-is-all two) (getD-in 0 (c .taxa) 0 (omega (arith, lawful .sized .taxa-sized))))
       go (no n) = let e : c .n ≡ 1 = omega (arith, lawful .head-lawful .some-taxa) in inr (0, ap all e)
 
 -- ---- the list

@@ -47,7 +47,8 @@ mutual
         length-append (allClades ts) (clades t),
       )
 
-  trees-length : (ts : Trees) (k : List Token) → length (plain (commas ts k)) ≡ letters (allNames ts) + 2 * length (allClades ts) + length (allNames ts) + length (plain k)
+  trees-length : (ts : Trees) (k : List Token)
+      → length (plain (commas ts k)) ≡ letters (allNames ts) + 2 * length (allClades ts) + length (allNames ts) + length (plain k)
   trees-length (one t) k = omega (arith, tree-length t (sign comma ∷ k))
   trees-length (then ts t) k =
       omega (

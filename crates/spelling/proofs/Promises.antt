@@ -1,6 +1,6 @@
--- What the text of an accepted answer and an accepted list of as many names says. It is written where there is room (`written-out`, `never-longer`); it spells one
--- tree (`spells-one-tree`), with the names of the list (`names-of-the-list`), whose clades of names are exactly the answer's groups (`clades-are-groups`), parts by
--- lowest taxon, and no other tree is so (`shows-the-groups`, `only-tree`); and reading it gives that tree back (`reads-back`).
+-- What the text of an accepted answer and an accepted list of as many names says. Where there is room, it is written (`written-out`, `never-longer`). It
+-- spells one tree (`spells-one-tree`), with the names of the list (`names-of-the-list`), whose clades of names are exactly the answer's groups
+-- (`clades-are-groups`), parts by lowest taxon (`shows-the-groups`), as no other tree's are (`only-tree`); and it reads back to that tree (`reads-back`).
 use mathlib.Core.Path.{_≡_, refl, ap, _∙_}
 use mathlib.Core.Logic.{_↔_}
 use mathlib.Core.List.{List}
@@ -69,7 +69,7 @@ module _ {answer list : List ℕ} (f : File answer) (a : Accepted answer list) w
   clades-are-groups = clades-exactly groups (λ G g. lawful-inside lawful g) shows-the-groups
 
   -- "what it writes reads back to the same clades of names".
-  pub reads-back : outcome (textOf answer list) ≡ accepted (one (treeOf answer list)) (between (taxa (one (treeOf answer list))) (allColumns (one (treeOf answer list))))
+  pub reads-back : let ts = one (treeOf answer list) in outcome (textOf answer list) ≡ accepted ts (between (taxa ts) (allColumns ts))
   reads-back = back.reads-back few (groups .laminar) named shows-the-groups
 
   -- A caller who lends this much has room.

@@ -25,13 +25,15 @@ then-byte s v at end {old} {new} p l =
     rw (p .is) (one v end (over s at old) (omega arith) ∙ onto s (v ∷ []) at end old (omega arith) (sym e))
 
 -- A byte right before one.
-pub after-byte : (v : ℕ) (s : List ℕ) (at : ℕ) (old : List ℕ) {new : List ℕ} {end : ℕ} → Put s (at + 1) (set old at v) new end → at < length old → Put (v ∷ s) at old new end
+pub after-byte : (v : ℕ) (s : List ℕ) (at : ℕ) (old : List ℕ) {new : List ℕ} {end : ℕ}
+    → Put s (at + 1) (set old at v) new end → at < length old → Put (v ∷ s) at old new end
 after-byte v s at old p l =
     record { is = p .is ∙ ap (over s (at + 1)) (one v at old l) ∙ onto (v ∷ []) s at (at + 1) old (omega arith) refl; ends = omega (arith, p .ends) }
 
 module _ {whole : List ℕ} {at : ℕ} {old : List ℕ} (fits : at + length whole ≤ length old) where
   -- The next text and the byte after it have room.
-  pub left-room : (s : List ℕ) (v : ℕ) (more : List ℕ) {rest : List ℕ} {end : ℕ} {new : List ℕ} → Left whole at old rest end new → rest ≡ s ++ v ∷ more → end + length s < length new
+  pub left-room : (s : List ℕ) (v : ℕ) (more : List ℕ) {rest : List ℕ} {end : ℕ} {new : List ℕ}
+      → Left whole at old rest end new → rest ≡ s ++ v ∷ more → end + length s < length new
   left-room s v more x e = omega (arith, ap length e, length-append s (v ∷ more), x .ends, x .long)
 
   pub left-next : (s : List ℕ) (v : ℕ) (more : List ℕ) {rest : List ℕ} {end : ℕ} {new : List ℕ} → Left whole at old rest end new → rest ≡ s ++ v ∷ more

@@ -52,7 +52,9 @@ texts :
     ∷ textOf (answer 3 (7 ∷ 5 ∷ [])) (list ("Q.robur" ∷ "Q-alba" ∷ "Fagus_1" ∷ []))
     ∷ []
     ≡ map text ("A;" ∷ "(A,(B,C));" ∷ "(A,(B,C),D);" ∷ "((A,(F,G)),(B,C),D,E);" ∷ "((Q.robur,Fagus_1),Q-alba);" ∷ [])
-unfolding text sum mass count _∩_ _∖_ within low numberAt bytesOf openingOf recordBytes run headBytes groupBytes endBytes fileOf taxaIn namesBytes listOf nameAt step allowed varyingStep finds nothingAfter equal isIn spelt nameJudged namePassed endPassed listedIn listed tokens file plain wider part parts bracket joined draw
+unfolding text sum mass count _∩_ _∖_ within low numberAt bytesOf openingOf recordBytes run headBytes groupBytes endBytes fileOf taxaIn namesBytes listOf
+    nameAt step allowed varyingStep finds nothingAfter equal isIn spelt nameJudged namePassed endPassed listedIn listed tokens file plain wider part parts
+    bracket joined draw
 texts = refl
 
 abbrev says : ℕ → ℕ → ℕ → Returned
@@ -68,5 +70,8 @@ numbers :
     ∷ writeNumbers (answer 3 (7 ∷ 4 ∷ [])) [] 0
     ∷ []
     ≡ says 0 0 10 ∷ says 10 0 0 ∷ says 15 0 0 ∷ says 15 0 0 ∷ says 18 10 0 ∷ says 12 32 0 ∷ []
-unfolding text sum mass count _∩_ _∖_ within low numberAt bytesOf openingOf recordBytes run headBytes groupBytes endBytes fileOf taxaIn costsIn namesBytes listOf nameAt step allowed varyingStep finds nothingAfter equal isIn spelt nameJudged namePassed endPassed listedIn listed checked tokens file plain wider part parts bracket joined draw counted headFault follows placed compatible compatibleAll groupFault judge walk headTest groupTest endTest tests fileTests afterBoth spelled
+unfolding text sum mass count _∩_ _∖_ within low numberAt bytesOf openingOf recordBytes run headBytes groupBytes endBytes fileOf taxaIn costsIn namesBytes
+    listOf nameAt step allowed varyingStep finds nothingAfter equal isIn spelt nameJudged namePassed endPassed listedIn listed checked tokens file plain
+    wider part parts bracket joined draw counted headFault follows placed compatible compatibleAll groupFault judge walk headTest groupTest endTest tests
+    fileTests afterBoth spelled
 numbers = refl

@@ -33,7 +33,8 @@ module _ (gs list : List ℕ) {S : ℕ} (fits : S < 2 ^ 64) {at : ℕ} {old : Li
       room = omega (arith, p .room, ap length (group-text gs list S fits two), length-set old at (byte left));
     }
 
-    pub parts-put : at < length old → {new : List ℕ} {end : ℕ} → Put (partsText gs list S S) (at + 1) (set old at (byte left)) new end → Put (spelling gs list S) at old new end
+    pub parts-put : at < length old → {new : List ℕ} {end : ℕ} → Put (partsText gs list S S) (at + 1) (set old at (byte left)) new end
+        → Put (spelling gs list S) at old new end
     parts-put l p = rw (group-text gs list S fits two) (after-byte (byte left) (partsText gs list S S) at old p l)
 
     -- ---- its parts: R is left, and P is the next

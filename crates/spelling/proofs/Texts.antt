@@ -21,7 +21,12 @@ record InFront (f : List Token → List Token) : Type 0 where
   is : (k : List Token) → plain (f k) ≡ plain (f []) ++ plain k
 
 both : {f g : List Token → List Token} → InFront f → InFront g → InFront (λ k. f (g k))
-both {f} {g} x y = record { is = λ k. x .is (g k) ∙ ap (_++_ (plain (f []))) (y .is k) ∙ sym (ap (λ s. s ++ plain k) (x .is (g [])) ∙ append-assoc (plain (f [])) (plain (g [])) (plain k)) }
+both {f} {g} x y = record {
+  is = λ k.
+      let a = plain (f []) in
+      let b = plain (g []) in
+      x .is (g k) ∙ ap (_++_ a) (y .is k) ∙ sym (ap (λ s. s ++ plain k) (x .is (g [])) ∙ append-assoc a b (plain k));
+}
 
 a-sign : (g : Sign) → InFront (_∷_ (sign g))
 unfolding plain
@@ -99,6 +104,7 @@ module _ (gs list : List ℕ) where
         go (no n) = rw (parts-next gs s two i (omega arith), ne-eqb R 0 n)
 
     -- The part of the lowest taxon that is left, the byte after it, and the parts that are left then.
-    pub parts-text-next : {R : ℕ} → R ⊆ S → 0 < R → (P : ℕ) → P ≡ part gs S (low 64 R) → partsText gs list S R ≡ spelling gs list P ++ closing (R ∖ P) ∷ partsText gs list S (R ∖ P)
+    pub parts-text-next : {R : ℕ} → R ⊆ S → 0 < R → (P : ℕ) → P ≡ part gs S (low 64 R)
+        → partsText gs list S R ≡ spelling gs list P ++ closing (R ∖ P) ∷ partsText gs list S (R ∖ P)
     unfolding listed
     parts-text-next {R} i x P e = rw (parts-next gs s two i x, ← e, parts-after (⊆-trans (∖-⊆ R P) i))

@@ -51,11 +51,13 @@ module _ (answer list : List ℕ) (count : ℕ) {a : Answer} (value : a ≡ answ
     no-room out e l =
         rw (eq-eqb count (contentIn answer .n) is-n, lt-ltb (length out) (length (textOf answer list)) (omega (arith, ap length text-for))) (refl, refl)
 
-    pub wrote : (out : List ℕ) {size : ℕ} {out′ : List ℕ} → size ≡ length (textFor (groupsOf a) list (a .n)) → size ≤ length out → out′ ≡ over (textFor (groupsOf a) list (a .n)) 0 out
+    pub wrote : (out : List ℕ) {size : ℕ} {out′ : List ℕ} → size ≡ length (textFor (groupsOf a) list (a .n)) → size ≤ length out
+        → out′ ≡ over (textFor (groupsOf a) list (a .n)) 0 out
         → Row out (Length size) out′
     unfolding afterBoth outputAfter
     wrote out e l o = (
-      rw (eq-eqb count (contentIn answer .n) is-n, le-ltb (length out) (length (textOf answer list)) (omega (arith, ap length text-for))) (ap Length (e ∙ ap length text-for)),
+      rw (eq-eqb count (contentIn answer .n) is-n, le-ltb (length out) (length (textOf answer list)) (omega (arith, ap length text-for)))
+          (ap Length (e ∙ ap length text-for)),
       o ∙ ap (λ s. over s 0 out) text-for,
     )
 
@@ -86,11 +88,12 @@ module _ (answer list out : List ℕ) where
   unfolding spelled outputAfter
   answer-refused e = numbered (rw (← e)) refl
 
-  pub list-refused : {here : Cursor} {why : Refusal} → passed.At here ≡ fileTests answer → lists.Refused why ≡ checked list → Spells answer list out (Refused why) out
+  pub list-refused : {here : Cursor} {why : Refusal} → passed.At here ≡ fileTests answer → lists.Refused why ≡ checked list
+      → Spells answer list out (Refused why) out
   unfolding spelled outputAfter
   list-refused e l = numbered (rw (← e, ← l)) refl
 
-  pub both-read : {count : ℕ} → Readable answer list count → {r : Spelled} {out′ : List ℕ} → r ≡ afterBoth answer list count (length out) → out′ ≡ outputAfter answer list r out
-      → Spells answer list out r out′
+  pub both-read : {count : ℕ} → Readable answer list count → {r : Spelled} {out′ : List ℕ} → r ≡ afterBoth answer list count (length out)
+      → out′ ≡ outputAfter answer list r out → Spells answer list out r out′
   unfolding spelled
   both-read b e o = numbered (rw (← b .passes, ← b .taken) e) o

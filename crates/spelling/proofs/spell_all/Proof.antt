@@ -20,7 +20,9 @@ spell-requires c κs = let start = begun (c .before) in rw (c .before .all .ensu
 abbrev taken : tie.After-spell → tie.Start
 taken c = begun (c .before .before)
 
-spelt : (c : tie.After-spell) → Put (spelling (groupsOf (taken c .args .value)) (taken c .args .list .now) (all (taken c .args .value .n))) 0 (taken c .args .room .now) (c .spell .last .1 .1 .1 .0) (c .spell .result)
+spelt : (c : tie.After-spell)
+    → Put (spelling (groupsOf (taken c .args .value)) (taken c .args .list .now) (all (taken c .args .value .n))) 0 (taken c .args .room .now)
+    (c .spell .last .1 .1 .1 .0) (c .spell .result)
 spelt c = rw (c .before .before .all .ensures) at (c .spell .ensures)
 
 ends : (c : tie.After-spell) → c .spell .result < length (taken c .args .room .now)

@@ -23,7 +23,9 @@ abbrev start : tie.After-listed → tie.Start
 start c = c .before .before .before .before .before .before .before .before .before
 
 both : (c : tie.After-listed) → Readable (start c .args .answer .now) (start c .args .list .now) (c .listed .given .0 .0)
-both c = let check = c .before .before in record { here = _; passes = passes (check .before); taken = sym (c .listed .given .1) ∙ check .check .ensures .answers }
+both c =
+    let check = c .before .before in
+    record { here = _; passes = passes (check .before); taken = sym (c .listed .given .1) ∙ check .check .ensures .answers }
 
 returns-2 : tie.Need-returns-2
 returns-2 c = let put = c .before .before in both-read _ _ _ (both (put .before .before .before)) (put .write-read .ensures .0) (put .write-read .ensures .1)

@@ -25,7 +25,8 @@ bytes c = record { byte = λ i. omega (arith, c .before .before .before .shared-
 spell-all-requires : tie.Need-spell-all-requires
 spell-all-requires c κs =
     let read = c .before .before .before in
-    tellable _ _ _ (read .answer-in .ensures) (c .before .if1 .left) (bytes read) (begun read .pre) {room = replicate 2238 0} (omega (arith, length-replicate {A = ℕ} 2238 0))
+    let enough = length-replicate {A = ℕ} 2238 0 in
+    tellable _ _ _ (read .answer-in .ensures) (c .before .if1 .left) (bytes read) (begun read .pre) {room = replicate 2238 0} (omega (arith, enough))
 
 -- ---- the text was made
 
@@ -59,7 +60,9 @@ returns-3 : tie.Need-returns-3
 returns-3 c =
     let put = c .before .before in
     let told = made (put .before) in
-    wrote _ _ _ (read told .answer-in .ensures) (told .before .before .if1 .left) _ (size told) (omega (arith, put .before .before .before .if2 .left)) (put .put-bytes .ensures ∙ rw (bytes-are told))
+    let fits = put .before .before .before .if2 .left in
+    let bytes = rw (bytes-are told) at (put .put-bytes .ensures) in
+    wrote _ _ _ (read told .answer-in .ensures) (told .before .before .if1 .left) _ (size told) (omega (arith, fits)) bytes
 
 pub write-read-spec : {M : Type 1} → statement M
 write-read-spec =

@@ -3,6 +3,7 @@
 use Prim.Native.Nat.{ℕ, _+_, _*_, _^_, _≤_, _<_}
 use borrow.Author.Needs.{needs}
 use mathlib.Core.Path.{_≡_, ap, _∙_}
+use mathlib.Core.List.{List}
 use native.Mathlib.Omega.{arith}
 use lib.ListN.{length, length-set}
 use Rattle.taxa.specs.Sets.{_⊆_, count, low}
@@ -56,7 +57,16 @@ module _ (t : ℕ) where
   parts-below = and 3 parts-kinds.ps (falls 3 parts-kinds.ps _<_ μ-parts t) parts.Pre
 
   abbrev spell-calls : spell-lts.Claims
-  spell-calls = (size-reads.Asked, size-reads.Learnt, lowest-reads.Asked, lowest-reads.Learnt, spell-name-reads.Asked, spell-name-reads.Learnt, parts-below, parts.Post)
+  spell-calls = (
+    size-reads.Asked,
+    size-reads.Learnt,
+    lowest-reads.Asked,
+    lowest-reads.Learnt,
+    spell-name-reads.Asked,
+    spell-name-reads.Learnt,
+    parts-below,
+    parts.Post,
+  )
 
   abbrev parts-calls : parts-lts.Claims
   parts-calls = (
@@ -115,7 +125,8 @@ module _ (t : ℕ) where
   spell-parts-requires c κs =
       let tested = c .before in
       let a = several tested .args in
-      (omega (arith, several tested .pre .0), (parts-able (a .groups .now) (a .list .now) (fits (several tested)) (more tested) (several tested .pre .1), more tested))
+      let able = parts-able (a .groups .now) (a .list .now) (fits (several tested)) (more tested) (several tested .pre .1) in
+      (omega (arith, several tested .pre .0), (able, more tested))
 
   spell-same-length : spell-lts.Need-same-length-2 spell-calls spell-at spell.Post
   spell-same-length c = c .before .before .spell-parts .kept .1 .1 .1 .0 ∙ simp length-set
@@ -155,21 +166,25 @@ module _ (t : ℕ) where
     found : c .part-of .result ≡ part (entered around .args .groups .now) (entered around .args .set) (low 64 (around .loop .left))
     found = c .part-of .ensures ∙ ap (part (entered around .args .groups .now) (entered around .args .set)) (c .before .lowest .ensures .0)
 
-    room : around .loop .end + length (spelling (entered around .args .groups .now) (entered around .args .list .now) (c .part-of .result)) < length (around .loop .text)
+    abbrev gs : List ℕ
+    gs = entered around .args .groups .now
+
+    abbrev list : List ℕ
+    list = entered around .args .list .now
+
+    room : around .loop .end + length (spelling gs list (c .part-of .result)) < length (around .loop .text)
     room =
         let start = entered around in
-        part-room (start .args .groups .now) (start .args .list .now) (wide start) (start .pre .1 .1) (start .pre .1 .0) (around .loop .inv .0) some _ found (around .loop .inv .1)
+        let l = around .loop in part-room gs list (wide start) (start .pre .1 .1) (start .pre .1 .0) (l .inv .0) some _ found (l .inv .1)
 
   parts-spell-requires : parts-lts.Need-spell-requires parts-calls parts-at parts.Post Inv μ-loop
   parts-spell-requires c κs =
       let at = c .before .before in
       let l = around at .loop in
       let start = entered (around at) in
-      let gs = start .args .groups .now in
-      let list = start .args .list .now in (
-        omega (arith, start .pre .0, part-falls gs list (wide start) (start .pre .1 .1) (start .pre .1 .0) (l .inv .0) (some at) _ (found at)),
-        part-able gs list (wide start) (start .pre .1 .1) (start .pre .1 .0) (l .inv .0) (some at) _ (found at) (l .inv .1),
-      )
+      let falls = part-falls (gs at) (list at) (wide start) (start .pre .1 .1) (start .pre .1 .0) (l .inv .0) (some at) _ (found at) in
+      let able = part-able (gs at) (list at) (wide start) (start .pre .1 .1) (start .pre .1 .0) (l .inv .0) (some at) _ (found at) (l .inv .1) in
+      (omega (arith, start .pre .0, falls), able)
 
   -- It was spelt.
   abbrev parted : parts-lts.After-spell parts-calls parts-at parts.Post Inv μ-loop → parts-lts.After-part-of parts-calls parts-at parts.Post Inv μ-loop
@@ -190,7 +205,7 @@ module _ (t : ℕ) where
       let l = around at .loop in
       let start = entered (around at) in
       rw (c .before .before .before .before .before .difference .ensures)
-      (left-falls (start .args .groups .now) (start .args .list .now) (wide start) (start .pre .1 .1) (start .pre .1 .0) (l .inv .0) (some at) _ (found at))
+      (left-falls (gs at) (list at) (wide start) (start .pre .1 .1) (start .pre .1 .0) (l .inv .0) (some at) _ (found at))
 
   parts-loop-again : parts-lts.Need-loop-again parts-calls parts-at parts.Post Inv μ-loop
   parts-loop-again c =
@@ -199,7 +214,7 @@ module _ (t : ℕ) where
       let l = around at .loop in
       let start = entered (around at) in
       rw (c .closing .ensures, spelt .before .before .difference .ensures)
-      (part-put (start .args .groups .now) (start .args .list .now) (wide start) (start .pre .1 .1) (start .pre .1 .0) (l .inv .0) (some at) _ (found at) (l .inv .1) (spelt .spell .ensures))
+      (part-put (gs at) (list at) (wide start) (start .pre .1 .1) (start .pre .1 .0) (l .inv .0) (some at) _ (found at) (l .inv .1) (spelt .spell .ensures))
 
   parts-same-length : parts-lts.Need-same-length parts-calls parts-at parts.Post Inv μ-loop
   parts-same-length c = search needs
@@ -210,7 +225,8 @@ module _ (t : ℕ) where
       let start = c .before .before .before .before .before in
       let none : l .left ≡ 0 = omega arith in
       let a = start .args in
-      left-end (start .pre .1 .0 .room) (l .inv .1) (ap (partsText (a .groups .now) (a .list .now) (a .set)) none ∙ parts-none (a .groups .now) (a .list .now) (a .set))
+      let all = ap (partsText (a .groups .now) (a .list .now) (a .set)) none ∙ parts-none (a .groups .now) (a .list .now) (a .set) in
+      left-end (start .pre .1 .0 .room) (l .inv .1) all
 
 pub +spell+spell-parts-spec : {M : Type 1} → statement M
 +spell+spell-parts-spec =
