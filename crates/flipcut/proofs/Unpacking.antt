@@ -71,7 +71,7 @@ module _ {text matrix list matrix′ list′ : List ℕ} {v : ℕ} (p : ReadsNew
 
   pub trees-unpacks : length text < 2 ^ 55 → unpackedTrees v ≡ newick.readNumbers text (length matrix) (length list)
   trees-unpacks small =
-      let near = rw (p .promised .numbers) (trees-near text (length matrix) (length list) small) in
+      let near : newick.returned (p .answer) .place < 2 ^ 55 = rw (p .promised .numbers) (trees-near text (length matrix) (length list) small) in
       ap unpackedTrees (p .packs) ∙ trees-returns (p .answer) trees near ∙ p .promised .numbers
 
   -- The number, however long the text is.
@@ -84,7 +84,7 @@ module _ {answer list out out′ : List ℕ} {v : ℕ} (f : File answer) (p : Wr
 
   pub text-unpacks : length list < 2 ^ 55 → unpackedText v ≡ spelling.writeNumbers answer list (length out)
   text-unpacks small =
-      let near = rw (p .promised .numbers) (text-near f list (length out) small) in
+      let near : spelling.returned (p .answer) .place < 2 ^ 55 = rw (p .promised .numbers) (text-near f list (length out) small) in
       ap unpackedText (p .packs) ∙ text-returns (p .answer) text near ∙ p .promised .numbers
 
   -- The number, however long the list is.

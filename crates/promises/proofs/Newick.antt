@@ -11,12 +11,16 @@ use Rattle.names.specs.declared.Listed.{Listed}
 use Rattle.names.specs.declared.Listed.the-variants as lists
 use Rattle.names.specs.Check as names
 use Rattle.names.proofs.Places.{refusal-there}
+use Rattle.grammar.specs.Trees.{one}
+use Rattle.grammar.proofs.Reading.{reads-only}
 use Rattle.newick.specs.Read as newick
+use Rattle.newick.specs.Held.{SourceTrees}
 use Rattle.newick.proofs.Promises.{refused-reading-trees, one-reading}
 use Rattle.spelling.specs.declared.Spelled.{Spelled}
 use Rattle.spelling.specs.declared.Spelled.the-variants as spelled
 use Rattle.spelling.specs.Write as spelling
 use Rattle.spelling.proofs.Places.{Small, spelled-small}
+use Rattle.spelling.proofs.Promises.{reads-back}
 use Rattle.flipcut.specs.Packed.{packedTrees, packedText, ReadsNewickPacked, WritesNewickPacked}
 use Rattle.flipcut.specs.Unpacked.{numberIn}
 use Rattle.flipcut.proofs.Unpacking.{trees-number-unpacks, text-number-unpacks}
@@ -82,3 +86,12 @@ pub one-write-newick-from-c : {answer list out : List ℕ} {v v′ : ℕ} {out�
 one-write-newick-from-c p q =
     let (same, output) = one-writing (p .promised) (q .promised) in
     (p .packs ∙ ap packedText same ∙ sym (q .packs), output)
+
+-- ---- "what it writes reads back"
+
+-- The text of an accepted answer and an accepted list is one of source trees: of the one tree that it spells. So reading takes it, where its outputs have room.
+pub text-reads-back : {answer list : List ℕ} → File answer → spelling.Accepted answer list
+    → SourceTrees (spelling.textOf answer list) (one (spelling.treeOf answer list))
+text-reads-back {answer} {list} f a =
+    let (spelt, within, taxa, columns) = reads-only (spelling.textOf answer list) (one (spelling.treeOf answer list)) (reads-back f a) in
+    record { spelt = spelt; within = within }
