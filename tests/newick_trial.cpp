@@ -45,11 +45,11 @@ void compare(Tally& tally, gen::Random& random, const NewickCase& given, const C
     tally.agreed(expected.refusal.number);
 }
 
-// A text with outputs that are long enough; where it is refused, also with the longest that any text can need.
-NewickCase with_room(const Bytes& text, bool longest = false) {
+// A text with outputs that are just long enough; where it is refused, with some.
+NewickCase with_room(const Bytes& text) {
     const NewickOutcome whole = oracle::read_newick(text, FLIPCUT_MOST_SOURCE_MATRIX, FLIPCUT_MOST_NAMES);
-    if (longest) return {text, FLIPCUT_MOST_SOURCE_MATRIX, FLIPCUT_MOST_NAMES};
-    return {text, whole.refusal.refused() ? 60 : whole.matrix.size(), whole.refusal.refused() ? 20 : whole.names.size()};
+    if (whole.refusal.refused()) return {text, 60, 20};
+    return {text, whole.matrix.size(), whole.names.size()};
 }
 
 // Each output just long enough, longer, one byte too short, and none.
@@ -73,7 +73,7 @@ void worked_cases(Tally& tally, gen::Random& random) {
         if (!worked.matrix.empty() && matrix != worked.matrix) tally.differ("the matrix of " + worked.what, worked.text);
         if (!worked.names.empty() && names != worked.names) tally.differ("the names of " + worked.what, worked.text);
         room_cases(tally, random, worked.text);
-        compare(tally, random, with_room(worked.text, true));
+        compare(tally, random, {worked.text, FLIPCUT_MOST_SOURCE_MATRIX, FLIPCUT_MOST_NAMES});
     }
 }
 

@@ -13,7 +13,7 @@ use Rattle.taxa.proofs.Members.{none, in∪, in∖, ext, ∪-⊆, ⊆-refl, in-
 use Rattle.grammar.specs.Columns.{Bytes}
 use Rattle.grammar.specs.Limits.{equal, isIn, seen, number, Distinct, end, next}
 use Rattle.grammar.proofs.Lists.{distinct-latter}
-use Rattle.grammar.proofs.Numbering.{equal-refl, equal-true, mem-isIn, isIn-mem, number-at, number-seen}
+use Rattle.grammar.proofs.Numbering.{equal-refl, equal-true, mem-isIn, isIn-mem, number-at, number-seen, apart}
 use Rattle.ledger.specs.Sets.{setOf}
 
 -- Every name of ns is among ms.
@@ -142,10 +142,6 @@ bit-in {n} {taxa} {ns} h k = go (within (2 ^ number taxa n) (setOf taxa ns)) (is
     go false true e f = absurd (true≢false (sym (within-⊆ (2 ^ number taxa n) (setOf taxa ns) .1 (pow-⊆ (to-set taxa (isIn-mem n ns f)))) ∙ e))
 
 -- ---- names that differ
-
-apart : {n : Bytes} {ns ms : List Bytes} → Distinct ns ms → List·Memᴰ n ns → List·Memᴰ n ms → ⊥
-apart {n} (next {m} {ns} {ms} e d) h (List·Memᴰ·head f) = true≢false (sym (mem-isIn (rw f at h)) ∙ e)
-apart {n} (next {m} {ns} {ms} e d) h (List·Memᴰ·tail g) = apart d (Memᴰ·append-left (m ∷ []) h) g
 
 -- What stands at a place of a list is in it.
 pub in-list : {A : Type 0} (l : List A) (i : ℕ) (d : A) → i < length l → List·Memᴰ (getD l i d) l

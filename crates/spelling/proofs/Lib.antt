@@ -7,3 +7,4 @@ pub mod Whole
 pub mod Writing
 pub mod Promises
 pub mod Places
+pub mod Specimens

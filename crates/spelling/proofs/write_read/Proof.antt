@@ -50,7 +50,7 @@ long c = ap length (bytes-are c) ∙ sym (size c)
 returns-2 : tie.Need-returns-2
 returns-2 c =
     let told = c .before .before in
-    no-room _ _ _ (read told .answer-in .ensures) (told .before .before .if1 .left) _ (size told) (c .if2 .taken)
+    no-room _ _ _ (read told .answer-in .ensures) (told .before .before .if1 .left) _ (size told) (omega (arith, c .if2 .taken))
 
 abbrev made : tie.After-room3 → tie.After-spell-all
 made c = c .before .before .before .before
@@ -59,7 +59,7 @@ returns-3 : tie.Need-returns-3
 returns-3 c =
     let put = c .before .before in
     let told = made (put .before) in
-    wrote _ _ _ (read told .answer-in .ensures) (told .before .before .if1 .left) _ (size told) (put .before .before .before .if2 .left) (put .put-bytes .ensures ∙ rw (bytes-are told))
+    wrote _ _ _ (read told .answer-in .ensures) (told .before .before .if1 .left) _ (size told) (omega (arith, put .before .before .before .if2 .left)) (put .put-bytes .ensures ∙ rw (bytes-are told))
 
 pub write-read-spec : {M : Type 1} → statement M
 write-read-spec =
