@@ -43,7 +43,8 @@ use Rattle.flipcut.specs.Unpacked.{bits, numberIn, placeIn, resultIn, le
 use Rattle.flipcut.specs.Unpacked.{unpacked, unpackedBuild, unpackedRead, unpackedScore, unpackedSplit, unpackedWrite}
 use Rattle.flipcut.specs.Unpacked.{unpackedNames, unpackedText, unpackedTrees}
 use Rattle.flipcut.proofs.Values.{value-put}
-use Rattle.flipcut.specs.inner.Fitting.{RefusalFits, CheckFits, BuildFits, SplitFits, ReadFits, WriteFits, ScoreFits, NamesFit, TreesFit, TextFits}
+use Rattle.flipcut.proofs.Fitting.{NamesFit}
+use Rattle.flipcut.specs.inner.Fitting.{RefusalFits, CheckFits, BuildFits, SplitFits, ReadFits, WriteFits, ScoreFits, TreesFit, TextFits}
 
 -- A refusal that fits.
 module _ (why : Refusal) (fits : RefusalFits why) where

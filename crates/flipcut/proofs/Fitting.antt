@@ -47,7 +47,8 @@ use Rattle.spelling.specs.declared.Spelled.the-variants as texts
 use Rattle.spelling.specs.Write.{spelled, writeNumbers}
 use Rattle.spelling.specs.Write as spelling
 use Rattle.spelling.proofs.Places.{Small, spelled-small}
-use Rattle.flipcut.specs.inner.Fitting.{CheckFits, BuildFits, SplitFits, ReadFits, WriteFits, ScoreFits, NamesFit, TreesFit, TextFits}
+use Rattle.flipcut.specs.Packed.{told}
+use Rattle.flipcut.specs.inner.Fitting.{RefusalFits, CheckFits, BuildFits, SplitFits, ReadFits, WriteFits, ScoreFits, TreesFit, TextFits}
 
 pub check-fits : {file : List ℕ} → File file → CheckFits (checked file)
 check-fits {file} f = go (checked file) refl
@@ -93,19 +94,25 @@ score-fits {matrix} f answer = go (scored matrix answer) (score-small f answer)
 
 -- ---- name lists
 
-pub names-fit : {file : List ℕ} → File file → length file < 2 ^ 63 → NamesFit (names.checked file)
-names-fit {file} f long = go (names.checked file) refl
-  where
-    go : (a : Listed) → a ≡ names.checked file → NamesFit a
-    go (lists.Taken count) e = let few = taken-few f e in omega arith
-    go (lists.Refused why) e = let (near, some, few) = refusal-there file e in (omega arith, omega arith)
+-- No sum is made of what their check answers, so no function of the code asks that it fits.
+abbrev pub NamesFit : Listed → Type 0
+NamesFit (lists.Taken count) = count < 2 ^ 63
+NamesFit (lists.Refused why) = RefusalFits (told why)
 
-pub names-near : (file : List ℕ) → length file < 2 ^ 55 → names.checkNumbers file .place < 2 ^ 55
-names-near file small = go (names.checked file) refl
-  where
-    go : (a : Listed) → a ≡ names.checked file → names.returned a .place < 2 ^ 55
-    go (lists.Taken count) e = omega arith
-    go (lists.Refused why) e = let (near, some, few) = refusal-there file e in omega arith
+module _ (file : List ℕ) (small : length file < 2 ^ 55) where
+  pub names-fit : File file → NamesFit (names.checked file)
+  names-fit f = go (names.checked file) refl
+    where
+      go : (a : Listed) → a ≡ names.checked file → NamesFit a
+      go (lists.Taken count) e = let few = taken-few f e in omega arith
+      go (lists.Refused why) e = let (near, some, few) = refusal-there file e in (omega arith, omega arith)
+
+  pub names-near : names.checkNumbers file .place < 2 ^ 55
+  names-near = go (names.checked file) refl
+    where
+      go : (a : Listed) → a ≡ names.checked file → names.returned a .place < 2 ^ 55
+      go (lists.Taken count) e = omega arith
+      go (lists.Refused why) e = let (near, some, few) = refusal-there file e in omega arith
 
 -- ---- Newick text
 module _ (text : List ℕ) (room space : ℕ) where

@@ -4,7 +4,6 @@
 use mathlib.Core.Path.{_≡_, _∙_, ap}
 use mathlib.Core.List.{List}
 use Prim.Native.Nat.{ℕ, _^_, _<_}
-use native.Mathlib.Omega.{arith}
 use lib.IntN.{ℤ}
 use lib.ListN.{length}
 use Rattle.record.specs.Bytes.{File}
@@ -63,7 +62,7 @@ score-unpacks {matrix} answer f = score-returns (scored matrix answer) (score-fi
 -- ---- texts and name lists below 2 to the 55 bytes
 
 pub names-unpacks : {file : List ℕ} → File file → length file < 2 ^ 55 → unpackedNames (packedNames (names.checked file)) ≡ names.checkNumbers file
-names-unpacks {file} f small = names-returns (names.checked file) (names-fit f (omega arith)) (names-near file small)
+names-unpacks {file} f small = names-returns (names.checked file) (names-fit file small f) (names-near file small)
 
 module _ {text matrix list matrix′ list′ : List ℕ} {v : ℕ} (p : ReadsNewickPacked text matrix list v matrix′ list′) where
   trees : TreesFit (p .answer)

@@ -17,7 +17,7 @@ ghost use Rattle.flipcut.specs.Packed.{packed, packedBuild, packedRead, 
 ghost use Rattle.flipcut.specs.Packed.{packedNames, packedText, packedTrees, lastPlace, told, resultAfter, valueAfter, withGroups};
 ghost use Rattle.answer.specs.declared.Verdict.the-variants.{Taken};
 ghost use Rattle.flipcut.specs.inner.Fitting.{RefusalFits, CheckFits, BuildFits, SplitFits, ReadFits, WriteFits, ScoreFits};
-ghost use Rattle.flipcut.specs.inner.Fitting.{NamesFit, TreesFit, TextFits};
+ghost use Rattle.flipcut.specs.inner.Fitting.{TreesFit, TextFits};
 
 const MOST_GROUPS: usize = 63;
 
@@ -158,7 +158,6 @@ fn far_refusal(why: Refusal) -> u64
 }
 
 pub fn check_names(answer: Listed) -> u64
-    requires { ⌜ NamesFit answer ⌝ }
     ensures { λ r. ⌜ r ≡ packedNames answer ⌝ }
 {
     match answer {

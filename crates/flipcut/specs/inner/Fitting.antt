@@ -13,8 +13,6 @@ use Rattle.tree.specs.declared.Built.{Built}
 use Rattle.tree.specs.declared.Built.the-variants as builds
 use Rattle.score.specs.declared.Scored.{Scored}
 use Rattle.score.specs.declared.Scored.the-variants as scores
-use Rattle.names.specs.declared.Listed.{Listed}
-use Rattle.names.specs.declared.Listed.the-variants as lists
 use Rattle.newick.specs.declared.Derived.{Derived}
 use Rattle.newick.specs.declared.Derived.the-variants as derived
 use Rattle.spelling.specs.declared.Spelled.{Spelled}
@@ -54,11 +52,6 @@ WriteFits (written.Refused why) = RefusalFits why
 abbrev pub ScoreFits : Scored → Type 0
 ScoreFits (scores.Taken up down) = (up .0 < 2 ^ 31) × (down .0 < 2 ^ 31)
 ScoreFits (scores.Refused why) = RefusalFits why
-
--- What the check of a name list answers.
-abbrev pub NamesFit : Listed → Type 0
-NamesFit (lists.Taken count) = count < 2 ^ 63
-NamesFit (lists.Refused why) = RefusalFits (told why)
 
 -- What reading source trees answers.
 abbrev pub TreesFit : Derived → Type 0
