@@ -1,6 +1,6 @@
-// Source trees of 1 MiB, read (processor time) by plain C and by the operation: MB/s of both, and the ratio. Of some the 64 names are short, of some
-// long; some have trees of two names, some of all; some have many blanks. All have the most columns that a text may have, 256, in their first
-// trees. Ends with 1 where what they answer or write differs, or where the operation has less than half of plain C's speed.
+// Source trees of 1 MiB, taken apart (processor time) by a plain C tokenizer, read by plain C and read by the operation: MB/s of each, and the
+// operation's ratio to the tokenizer and to plain C. Of some the 64 names are short, of some long; some have trees of two names, some of all; some have many blanks. All have the most columns that a text may have, 256, in their first
+// trees. Ends with 1 where what they answer or write differs, or where the operation has less than half of the tokenizer's speed.
 //   newick FILE   also writes the last text there, which has all kinds of trees in turn
 #define _GNU_SOURCE
 #include "plain_newick.h"
@@ -89,21 +89,25 @@ typedef uint64_t Reader(const uint8_t *text, size_t length, uint8_t *matrix, siz
 static uint64_t operation(const uint8_t *given, size_t length, uint8_t *matrix, size_t matrix_length, uint8_t *names, size_t names_length) {
     return flipcut_read_newick(given, length, matrix, matrix_length, names, names_length);
 }
-enum { PLAIN, OURS };
-static Reader *const readers[] = {plain_read, operation};
+static uint64_t tokenize(const uint8_t *given, size_t length, uint8_t *matrix, size_t matrix_length, uint8_t *names, size_t names_length) {
+    (void)matrix, (void)matrix_length, (void)names, (void)names_length;
+    return plain_tokenize(given, length);
+}
+enum { TOKENS, PLAIN, OURS, READERS };
+static Reader *const readers[] = {tokenize, plain_read, operation};
 
 // The least time of each; false where they differ, or refuse.
-static bool take_turns(double least[2]) {
-    static uint8_t matrix[2][FLIPCUT_MOST_SOURCE_MATRIX], names[2][FLIPCUT_MOST_NAMES];
-    uint64_t packed[2] = {0, 0};
+static bool take_turns(double least[READERS]) {
+    static uint8_t matrix[READERS][FLIPCUT_MOST_SOURCE_MATRIX], names[READERS][FLIPCUT_MOST_NAMES];
+    uint64_t packed[READERS] = {0};
     for (int i = 0; i < ROUNDS; i++)
-        for (int which = PLAIN; which <= OURS; which++) {
+        for (int which = TOKENS; which < READERS; which++) {
             double at = now();
             packed[which] = readers[which](text, text_length, matrix[which], sizeof matrix[which], names[which], sizeof names[which]);
             double spent = now() - at;
             if (i == 0 || spent < least[which]) least[which] = spent;
         }
-    return !flipcut_refused(packed[PLAIN]) && packed[PLAIN] == packed[OURS] && memcmp(matrix[PLAIN], matrix[OURS], sizeof *matrix) == 0 &&
+    return packed[TOKENS] == 0 && !flipcut_refused(packed[PLAIN]) && packed[PLAIN] == packed[OURS] && memcmp(matrix[PLAIN], matrix[OURS], sizeof *matrix) == 0 &&
            memcmp(names[PLAIN], names[OURS], sizeof *names) == 0;
 }
 
@@ -111,17 +115,17 @@ int main(int count, char **words) {
     if (count != 2) return 2;
     int slow = 0;
     for (int kind = 0; kind < TEXTS; kind++) {
-        double least[2];
+        double least[READERS];
         make_text(kind);
         if (!take_turns(least)) {
             printf("%s: what is read DIFFERS, or is refused\n", text_names[kind]);
             return 1;
         }
-        double speed[2], ratio = least[PLAIN] / least[OURS];
-        for (int which = PLAIN; which <= OURS; which++) speed[which] = (double)text_length / least[which] / 1e6;
-        slow |= ratio < LEAST_RATIO;
-        printf("%-12s %zu bytes  plain C %6.1f MB/s  read %6.1f MB/s  ratio %.2f%s\n", text_names[kind], text_length, speed[PLAIN], speed[OURS], ratio,
-               ratio < LEAST_RATIO ? "  TOO SLOW" : "");
+        double speed[READERS], to_tokens = least[TOKENS] / least[OURS], to_plain = least[PLAIN] / least[OURS];
+        for (int which = TOKENS; which < READERS; which++) speed[which] = (double)text_length / least[which] / 1e6;
+        slow |= to_tokens < LEAST_RATIO;
+        printf("%-12s %zu bytes  tokenizer %6.1f MB/s  plain C %6.1f MB/s  read %6.1f MB/s  to tokenizer %.2f%s  to plain C %.2f\n", text_names[kind],
+               text_length, speed[TOKENS], speed[PLAIN], speed[OURS], to_tokens, to_tokens < LEAST_RATIO ? " TOO SLOW" : "", to_plain);
         fflush(stdout);
     }
     FILE *f = fopen(words[1], "wb");

@@ -1,6 +1,7 @@
 #!/usr/bin/env bash
-# Times the reading of source trees, texts of 1 MiB, by the operation against plain C of the same (bench/plain_newick.h) and, on the last text, against
-# DendroPy (Debian's package python3-dendropy). Ends with 1 where what is read differs, or where the operation has less than half of plain C's speed.
+# Times the reading of source trees, texts of 1 MiB, by the operation against a plain C tokenizer and plain C that reads all of it (bench/plain_newick.h)
+# and, on the last text, against DendroPy (Debian's package python3-dendropy). Ends with 1 where what is read differs, or where the operation has less
+# than half of the tokenizer's speed.
 # C and operation are x86-64 code in one program, so on Arm both run under the toolchain's emulator, and DendroPy does not. What is not yet proved is
 # proved first.
 set -euo pipefail

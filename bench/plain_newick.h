@@ -1,5 +1,5 @@
 // Plain C that reads source trees as the operation does: one pass over the bytes, a table of names that is gone through from its start, sets of taxa
-// as 64-bit numbers. It answers the same packed number and writes the same two files.
+// as 64-bit numbers. It answers the same packed number and writes the same two files. And a tokenizer: the same pass, which keeps no name and no set.
 #ifndef PLAIN_NEWICK_H
 #define PLAIN_NEWICK_H
 
@@ -32,8 +32,8 @@ static inline unsigned plain_taxon(const uint8_t *start, size_t length) {
     return taxon;
 }
 
-// The tokens, by whether a subtree is to come and how many brackets are open; 0, or the refusal.
-static uint64_t plain_tokens(const uint8_t *text, size_t length) {
+// The tokens, by whether a subtree is to come and how many brackets are open; 0, or the refusal. Where nothing is kept, 18 and names too many are not told.
+static inline __attribute__((always_inline)) uint64_t plain_pass(const uint8_t *text, size_t length, const bool keep) {
     uint64_t below[64];       // the names in each open bracket
     unsigned column_of[64];   // and its column
     uint64_t several = 0;     // which of them have a comma
@@ -49,18 +49,20 @@ static uint64_t plain_tokens(const uint8_t *text, size_t length) {
             if (open > 0 && columns_count == FLIPCUT_MOST_COLUMNS) return plain_refusal(19, at);
             if (open == 64) return plain_refusal(20, at);
             if (open > 0) column_of[open] = columns_count++;
-            below[open] = 0;
+            if (keep) below[open] = 0;
             several &= ~(UINT64_C(1) << open++);
             at++;
         } else if (due && byte_kind[byte] == LETTER) {
             const size_t start = at;
             while (at < length && byte_kind[text[at]] == LETTER) at++;
             if (at - start > FLIPCUT_MOST_NAME) return plain_refusal(17, start + FLIPCUT_MOST_NAME);
-            const unsigned taxon = plain_taxon(text + start, at - start);
-            if (taxon == FLIPCUT_MOST_TAXA) return plain_refusal(19, start);
-            if (tree >> taxon & 1) return plain_refusal(18, start);
-            tree |= UINT64_C(1) << taxon;
-            if (open > 0) below[open - 1] |= UINT64_C(1) << taxon;
+            if (keep) {
+                const unsigned taxon = plain_taxon(text + start, at - start);
+                if (taxon == FLIPCUT_MOST_TAXA) return plain_refusal(19, start);
+                if (tree >> taxon & 1) return plain_refusal(18, start);
+                tree |= UINT64_C(1) << taxon;
+                if (open > 0) below[open - 1] |= UINT64_C(1) << taxon;
+            }
             due = false;
         } else if (!due && open > 0 && byte == ',') {
             several |= UINT64_C(1) << (open - 1);
@@ -68,13 +70,13 @@ static uint64_t plain_tokens(const uint8_t *text, size_t length) {
             at++;
         } else if (!due && open > 0 && byte == ')' && several >> (open - 1) & 1) {
             open--;
-            if (open > 0) {
+            if (keep && open > 0) {
                 columns_ones[column_of[open]] = below[open];
                 below[open - 1] |= below[open];
             }
             at++;
         } else if (!due && open == 0 && byte == ';') {
-            for (; of_tree < columns_count; of_tree++) columns_zeros[of_tree] = tree & ~columns_ones[of_tree];
+            for (; keep && of_tree < columns_count; of_tree++) columns_zeros[of_tree] = tree & ~columns_ones[of_tree];
             tree = 0;
             due = any = true;
             at++;
@@ -84,8 +86,10 @@ static uint64_t plain_tokens(const uint8_t *text, size_t length) {
     }
 }
 
+static uint64_t plain_tokenize(const uint8_t *text, size_t length) { return plain_pass(text, length, false); }
+
 static uint64_t plain_read(const uint8_t *text, size_t length, uint8_t *matrix, size_t matrix_length, uint8_t *names, size_t names_length) {
-    const uint64_t refused = plain_tokens(text, length);
+    const uint64_t refused = plain_pass(text, length, true);
     if (refused != 0) return refused;
     size_t of_matrix = 12 + 22 * (size_t)columns_count, of_names = 4;
     for (unsigned i = 0; i < names_count; i++) of_names += 4 + names_read[i].length;
