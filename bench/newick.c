@@ -1,14 +1,14 @@
 // Source trees of 1 MiB, taken apart (processor time) by a plain C tokenizer, read by plain C and read by the operation: MB/s of each, and the
-// operation's ratio to the tokenizer and to plain C. Of some the 64 names are short, of some long; some have trees of two names, some of all; some have many blanks. All have the most columns that a text may have, 256, in their first
-// trees. Ends with 1 where what they answer or write differs, or where the operation has less than half of the tokenizer's speed.
+// operation's ratio to the tokenizer and to plain C. Of some the 64 names are short, of some long; some have trees of two names, some of all; some have many
+// blanks. All have 248 columns, those of their first four trees. Ends with 1 where what they answer or write differs, or where the operation has less than half of the tokenizer's speed.
 //   newick FILE   also writes the last text there, which has all kinds of trees in turn
 #define _GNU_SOURCE
 #include "plain_newick.h"
 #include <stdio.h>
 
 enum { N = FLIPCUT_MOST_TAXA, TEXT_LENGTH = 1 << 20, ROUNDS = 15 };
-enum { SHORT_PAIRS, PAIRS, STARS, LONG_STARS, SINGLE, BLANKS, ALL_IN_TURN, TEXTS };
-static const char *const text_names[] = {"short pairs", "pairs", "stars", "long stars", "single names", "blanks", "all in turn"};
+enum { SHORT_PAIRS, FEW_LETTERS, PAIRS, STARS, LONG_STARS, SINGLE, BLANKS, ALL_IN_TURN, TEXTS };
+static const char *const text_names[] = {"short pairs", "few letters", "pairs", "stars", "long stars", "single names", "blanks", "all in turn"};
 static const double LEAST_RATIO = 0.5;
 
 static uint8_t text[TEXT_LENGTH];
@@ -16,13 +16,14 @@ static size_t text_length;
 static char name[N][FLIPCUT_MOST_NAME + 1];
 static unsigned order[N];  // in which a tree has the names
 
-// Of one letter, of as many as may be, or a genus and up to 16 letters more.
+// Of one letter, of 2 to 7, of as many as may be, or a genus and up to 16 letters more.
 static void make_names(int kind) {
     static const char all[] = "ABCDEFGHIJKLMNOPQRSTUVWXYZabcdefghijklmnopqrstuvwxyz0123456789.-_";
     static const char *const genera[] = {"Quercus_", "Rosa_", "Castanopsis_", "Acer_"};
     for (unsigned i = 0; i < N; i++) {
         size_t length = 0, letters = kind == SHORT_PAIRS ? 1 : FLIPCUT_MOST_NAME;
-        if (kind != SHORT_PAIRS && kind != LONG_STARS) {
+        if (kind == FEW_LETTERS) letters = 2 + rnd() % 6;
+        if (kind != SHORT_PAIRS && kind != FEW_LETTERS && kind != LONG_STARS) {
             strcpy(name[i], genera[i % 4]);
             length = strlen(name[i]);
             letters = length + 2 + rnd() % 15;
@@ -69,7 +70,7 @@ static void put_comb(void) {
 
 static void put_tree(int kind) {
     switch (kind) {
-    case SHORT_PAIRS: case PAIRS: put_star(2, ""); break;
+    case SHORT_PAIRS: case FEW_LETTERS: case PAIRS: put_star(2, ""); break;
     case STARS: case LONG_STARS: put_star(N, ""); break;
     case SINGLE: put_star(1, ""); break;
     default: put_star(4, " \t \r\n   "); break;

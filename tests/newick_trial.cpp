@@ -119,6 +119,19 @@ void every_prefix_and_byte(Tally& tally, gen::Random& random) {
     for (const std::string& text : {names, comb(64) + ";", columns}) every_telling_byte(tally, random, text);
 }
 
+// Two names of each length that differ in one letter, at each place, met again in either order, up to the text's end.
+void like_names(Tally& tally, gen::Random& random) {
+    for (std::size_t size = 1; size <= FLIPCUT_MOST_NAME; ++size)
+        for (std::size_t place = 0; place < size; ++place) {
+            const std::string one(size, 'x');
+            std::string other = one;
+            other[place] = 'y';
+            const std::string start = "(" + one + "," + other + ");(" + other + "," + one + ");";
+            for (const std::string& end : {std::string(), one + ";", other + ";", "(" + one + "," + one + ");", "((" + other + "," + one + "),z);"})
+                compare(tally, random, with_room(bytes_of(start + end)));
+        }
+}
+
 // Every length of each output, up to a few bytes more than it needs.
 void every_room(Tally& tally, gen::Random& random) {
     const Bytes text = bytes_of("(Quercus_robur,(Q.petraea,Q-pubescens));(Fagus,(Quercus_robur,Q.petraea));");
@@ -186,6 +199,7 @@ int main(int argc, char** argv) {
     Bytes text;
     short_texts(tally, random, 9, text);
     every_prefix_and_byte(tally, random);
+    like_names(tally, random);
     every_room(tally, random);
     largest_lengths(tally, random);
     long_texts(tally, random);

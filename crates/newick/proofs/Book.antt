@@ -14,7 +14,7 @@ use Rattle.grammar.specs.Bytes.{byte, isBlank, isLetter, left, right, comma, se
 use Rattle.grammar.specs.Trees.{Trees, word, sign}
 use Rattle.grammar.specs.Verdict.{goes, accepted, refused}
 use Rattle.grammar.specs.Columns.{Bytes}
-use Rattle.grammar.specs.Limits.{number}
+use Rattle.grammar.specs.Limits.{equal, number}
 use Rattle.grammar.specs.inner.Shape.{beginning, ended}
 use Rattle.grammar.specs.inner.Standing.{Run, piece, Standing}
 use Rattle.grammar.proofs.Standing.{piece-length, skips, cannot-begin, cannot-follow, opens, open-refused, closes, closes-one, closes-none}
@@ -23,8 +23,8 @@ use Rattle.grammar.proofs.Standing.{starts, ends, ends-unfinished, ends-treeles
 use Rattle.ledger.specs.inner.Ledger.{Ledger, unwritten, note, outcome, wrongs, keep, opening, entering, known}
 use Rattle.newick.specs.declared.Reading.{Reading}
 use Rattle.newick.specs.inner.Names.{namesIn}
-use Rattle.newick.specs.inner.Book.{Book, withNames, withBrackets, withColumns, bracketsIn, filledIn, ledgerIn, Holds, SignAt, cladePut, withName, Roomy}
-use Rattle.newick.proofs.Names.{one-further, number-most, length-names, names-more}
+use Rattle.newick.specs.inner.Book.{Book, withNames, withBrackets, withColumns, bracketsIn, filledIn, ledgerIn, Holds, SignAt, LeadsBy, EndsBy, standing, cladePut, withName, Roomy}
+use Rattle.newick.proofs.Names.{one-further, number-most, length-names, names-more, new-one}
 
 -- ---- the lists of open brackets
 
@@ -433,11 +433,35 @@ module _ {text : List ℕ} {k : Book} {r : Reading} (h : Holds text k r) where
                     (λ j b. rw (start-kept j b, size-kept j b) (p .inside j (omega (arith, new))))
                     (rw (start-new f, size-new f) (omega (arith, run .within)));
                 short = one-further (λ j. getD sizes-now j 0 ≤ 32) (λ j b. rw (size-kept j b) (p .short j (omega (arith, new)))) (rw (size-new f) short);
+                apart = one-further
+                    (λ a. (j : ℕ) → j < a → equal (piece text (getD starts-now a 0) (getD sizes-now a 0)) (piece text (getD starts-now j 0) (getD sizes-now j 0)) ≡ false)
+                    (λ a b j q. rw (start-kept a b, size-kept a b, start-kept j (omega arith), size-kept j (omega arith)) (p .apart a (omega (arith, new)) j q))
+                    (λ j q. rw (start-new f, size-new f, start-kept j q, size-kept j q)
+                    (new-one text (k .starts) (k .sizes) (r .taxa) read (omega (arith, e)) j (omega (arith, new))));
               };
               bracketed = h .bracketed;
               zeros-room = h .zeros-room;
               stands = rw (new, taxa-now) (rw new at stands);
             }
+
+-- ---- by the number of a refusal
+
+module _ (text : List ℕ) (k : Book) (r : Reading) where
+  pub led-on : (from n : ℕ) → n ≤ 0 → LeadsBy text k from r n → Holds text k r × (from < r .at) × (r .at ≤ length text)
+  led-on from zero l s = s
+  led-on from (suc n) l s = absurd (omega arith)
+
+  pub led-to-end : (from n : ℕ) → 0 < n → LeadsBy text k from r n → EndsBy text k r n
+  led-to-end from zero l s = absurd (omega arith)
+  led-to-end from (suc n) l s = s
+
+  pub ended-well : (n : ℕ) → n ≤ 0 → EndsBy text k r n → Holds text k r × (ts : Trees) × (outcome text ≡ accepted ts (ledgerIn text k r))
+  ended-well zero l s = s
+  ended-well (suc n) l s = absurd (omega arith)
+
+  pub ended-ill : (n : ℕ) → 0 < n → EndsBy text k r n → outcome text ≡ refused n (r .at)
+  ended-ill zero l s = absurd (omega arith)
+  ended-ill (suc n) l s = s
 
 -- ---- the text
 
@@ -452,6 +476,7 @@ begins text k room = record {
     few = omega arith;
     inside = λ j l. absurd (omega arith);
     short = λ j l. absurd (omega arith);
+    apart = λ i l. absurd (omega arith);
   };
   bracketed = record {
     ones-room = room .ones-room;
@@ -469,17 +494,7 @@ begins text k room = record {
 
 module _ {text : List ℕ} {k : Book} {r : Reading} (h : Holds text k r) where
   -- The blanks between two tokens.
-  pub blanks-passed : {end : ℕ} → Run isBlank text (r .at) end
-      → Holds text k (record {
-        at = end;
-        ended = r .ended;
-        finished = r .finished;
-        taxa = r .taxa;
-        columns = r .columns;
-        here = r .here;
-        opened = r .opened;
-        depth = r .depth;
-      })
+  pub blanks-passed : {end : ℕ} → Run isBlank text (r .at) end → Holds text k (standing r end)
   blanks-passed run = record { placed = h .placed; bracketed = h .bracketed; zeros-room = h .zeros-room; stands = skips (h .stands) run }
 
   -- The end of the text.

@@ -1,5 +1,6 @@
 -- Reading source trees: what is proved.
 pub mod Runs
+pub mod Comparing
 pub mod Names
 pub mod Lists
 pub mod Book

@@ -12,7 +12,8 @@ use lib.Seq.{getD-at, getD-set-same, getD-set-other}
 use Rattle.grammar.specs.Columns.{Bytes}
 use Rattle.grammar.specs.Limits.{equal, number}
 use Rattle.grammar.specs.inner.Standing.{piece}
-use Rattle.newick.specs.inner.Names.{namesIn}
+use Rattle.grammar.proofs.Numbering.{equal-refl}
+use Rattle.newick.specs.inner.Names.{namesIn, Placed}
 
 -- What holds of all numbers below i, and of i.
 pub one-further : (P : ℕ → Type 0) {i : ℕ} → ((j : ℕ) → j < i → P j) → P i → (j : ℕ) → j < i + 1 → P j
@@ -79,6 +80,19 @@ unfolding namesIn
 names-more text starts sizes at size n l m =
     rw (add-one, getD-set-same starts n at 0 l, getD-set-same sizes n size 0 m, names-kept text starts sizes at size n n (omega arith))
 
+-- A name with a number past the names is none of them.
+none-before : (ms : List Bytes) (n : Bytes) → length ms ≤ number ms n → (j : ℕ) → j < length ms → equal n (getD ms j []) ≡ false
+unfolding number
+none-before [] n l j b = absurd (omega arith)
+none-before (m ∷ ms) n l j b = go (equal n m) refl l (none-before ms n) j b
+  where
+    go : (c : Bool) → equal n m ≡ c → suc (length ms) ≤ cond c 0 (suc (number ms n))
+        → (length ms ≤ number ms n → (j : ℕ) → j < length ms → equal n (getD ms j []) ≡ false)
+        → (j : ℕ) → j < suc (length ms) → equal n (getD (m ∷ ms) j []) ≡ false
+    go true e l rest j b = absurd (omega arith)
+    go false e l rest zero b = e
+    go false e l rest (suc j) b = rest (omega arith) j (omega arith)
+
 module _ (text starts sizes : List ℕ) (n : ℕ) (m : Bytes) where
   -- The first i names are others.
   abbrev pub Others : ℕ → Type 0
@@ -94,3 +108,19 @@ module _ (text starts sizes : List ℕ) (n : ℕ) (m : Bytes) where
   not-found o =
       let k = length-names text starts sizes n in
       sym k ∙ number-nowhere (namesIn text starts sizes n) m (λ j l. rw (name-in text starts sizes n j (omega arith)) (o j (omega arith)))
+
+  -- A new name is none of the first n.
+  pub new-one : n ≤ number (namesIn text starts sizes n) m → Others n
+  new-one l j b =
+      let k = length-names text starts sizes n in
+      rw (name-in text starts sizes n j b) at (none-before (namesIn text starts sizes n) m (omega arith) j (omega arith))
+
+-- A name that is that of a taxon has the number of that taxon.
+pub number-of-taxon : {text starts sizes : List ℕ} {n : ℕ} (at size : ℕ) → Placed text starts sizes n → (i : ℕ) → i < n → getD sizes i 0 ≡ size
+    → piece text at size ≡ piece text (getD starts i 0) size → i ≡ number (namesIn text starts sizes n) (piece text at size)
+number-of-taxon {text} {starts} {sizes} {n} at size p i l q e =
+    let there = piece text (getD starts i 0) (getD sizes i 0) in
+    let same : piece text at size ≡ there = e ∙ ap (piece text (getD starts i 0)) (sym q) in
+    found text starts sizes n (piece text at size) i l
+    (λ j b. ap (λ (x : Bytes). equal x (piece text (getD starts j 0) (getD sizes j 0))) same ∙ p .apart i l j b)
+    (ap (λ (x : Bytes). equal x there) same ∙ equal-refl there)

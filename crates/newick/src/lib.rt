@@ -1,6 +1,7 @@
 // Source trees in: the operation "read source trees", a Newick text to a matrix file and a name list.
 // Promises: for any text and any lengths of the outputs, every number and every byte is that of specs/Read.antt.
 // Rests on taxa, record, matrix, grammar, ledger and names.
+mod hints;
 mod list;
 mod reader;
 mod scan;
@@ -9,9 +10,11 @@ mod tokens;
 use matrix::writer::put_matrix;
 use record::Refusal;
 ghost use mathlib.Core.Path.{_≡_};
+ghost use lib.ListN.{length};
 ghost use Rattle.record.specs.Records as records;
 ghost use Rattle.newick.specs.declared.Derived.the-variants as derived;
 ghost use Rattle.newick.specs.Read.{Reads};
+ghost use Rattle.newick.specs.inner.Runs.{Lettered};
 ghost use Rattle.newick.specs.inner.Book.{book, Roomy};
 ghost use Rattle.newick.specs.inner.Found.{Found};
 
@@ -29,10 +32,19 @@ pub struct Reading {
     pub depth: usize,
 }
 
-// What a token comes to.
-pub enum Stepped {
-    On(Reading),
-    Refused(Refusal),
+// What a token comes to: where the reader stands then; with a number other than 0 that is the place of this refusal. (No enum, so that what is read stays
+// in the processor's registers: bench/newick.sh.)
+pub struct Stepped {
+    pub reading: Reading,
+    pub refusal: u8,
+}
+
+// The bytes of a name, eight by eight.
+pub struct Words {
+    pub first: u64,
+    pub second: u64,
+    pub third: u64,
+    pub last: u64,
 }
 
 // What reading answers: the lengths of the matrix file and of the name list, or the refusal.
@@ -81,6 +93,8 @@ fn write_found(
 
 // The operation, with the lists that the reader keeps.
 fn read_with(
+    letters: &[bool; 256],
+    hints: &mut [u8; 4096],
     text: &[u8],
     matrix: &mut [u8],
     names: &mut [u8],
@@ -92,24 +106,42 @@ fn read_with(
     before: &mut [u64; 64],
     filled: &mut [bool; 64],
 ) -> Derived
-    requires { ⌜ Roomy (book (now starts) (now sizes) (now ones) (now zeros) (now index) (now before) (now filled)) ⌝ }
+    requires { ⌜
+        Roomy (book (now starts) (now sizes) (now ones) (now zeros) (now index) (now before) (now filled))
+        × Lettered (now letters)
+        × (length (now hints) ≡ 4096) ⌝ }
     ensures { λ r. ⌜ Reads (now (text .entry)) (now (matrix .entry)) (now (names .entry)) r (now (matrix .exit)) (now (names .exit)) ⌝ }
 {
-    let last = reader::read_text(text, starts, sizes, ones, zeros, index, before, filled);
-    match last {
-        Stepped::On(end) => write_found(
-            text,
-            starts,
-            sizes,
-            ones,
-            zeros,
-            end.taxa,
-            end.columns,
-            matrix,
-            names,
-        ),
-        Stepped::Refused(why) => Derived::Refused(why),
+    let last = reader::read_text(
+        letters,
+        hints,
+        text,
+        starts,
+        sizes,
+        ones,
+        zeros,
+        index,
+        before,
+        filled,
+    );
+    let end = last.reading;
+    if 0 < last.refusal {
+        return Derived::Refused(Refusal {
+            number: last.refusal,
+            place: end.at,
+        });
     }
+    write_found(
+        text,
+        starts,
+        sizes,
+        ones,
+        zeros,
+        end.taxa,
+        end.columns,
+        matrix,
+        names,
+    )
 }
 
 // The operation "read source trees".
@@ -117,6 +149,8 @@ pub fn read(text: &[u8], matrix: &mut [u8], names: &mut [u8]) -> Derived
     ensures { λ r. ⌜ Reads (now (text .entry)) (now (matrix .entry)) (now (names .entry)) r (now (matrix .exit)) (now (names .exit)) ⌝ }
 {
     read_with(
+        &scan::letter_table(),
+        &mut [0u8; 4096],
         text,
         matrix,
         names,

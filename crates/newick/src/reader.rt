@@ -5,11 +5,14 @@ ghost use mathlib.Core.List.{List};
 ghost use Prim.Native.Nat.{ℕ, _≤_, _<_};
 ghost use lib.ListN.{length, getD};
 ghost use Rattle.grammar.specs.Bytes.{isBlank};
+ghost use Rattle.newick.specs.inner.Runs.{Lettered};
 ghost use Rattle.newick.specs.inner.Book.{Book, book, Holds, Ends, Roomy};
 use super::Reading;
 use super::Stepped;
 use super::scan::after_blanks;
+use super::tokens::on;
 use super::tokens::refused;
+use super::tokens::standing;
 use super::tokens::take_token;
 
 // The same place, past the blanks that stand there.
@@ -21,16 +24,7 @@ fn past_blanks(text: &[u8], from: Reading) -> Reading
         × (r .at < length (now (text .entry)) → isBlank (getD (now (text .entry)) (r .at) 0) ≡ false)
         × ((k : Book) → Holds (now (text .entry)) k from → Holds (now (text .entry)) k r) ⌝ }
 {
-    Reading {
-        at: after_blanks(text, from.at),
-        ended: from.ended,
-        finished: from.finished,
-        taxa: from.taxa,
-        columns: from.columns,
-        here: from.here,
-        opened: from.opened,
-        depth: from.depth,
-    }
+    standing(from, after_blanks(text, from.at))
 }
 
 // The end of the text: it may come behind a finished tree, before another begins.
@@ -38,19 +32,21 @@ fn take_end(from: Reading) -> Stepped
     ensures { λ s. ⌜ ((text : List ℕ) (k : Book) → Holds text k from → from .at ≡ length text → Ends text k s) ⌝ }
 {
     if from.ended {
-        return refused(16, from.at);
+        return refused(16, from.at, from);
     }
     if from.finished {
         if from.depth == 0 {
-            return Stepped::On(from);
+            return on(from);
         }
-        return refused(16, from.at);
+        return refused(16, from.at, from);
     }
-    refused(16, from.at)
+    refused(16, from.at, from)
 }
 
 // The whole text.
 pub fn read_text(
+    letters: &[bool; 256],
+    hints: &mut [u8; 4096],
     text: &[u8],
     starts: &mut [usize; 64],
     sizes: &mut [usize; 64],
@@ -60,7 +56,10 @@ pub fn read_text(
     before: &mut [u64; 64],
     filled: &mut [bool; 64],
 ) -> Stepped
-    requires { ⌜ Roomy (book (now starts) (now sizes) (now ones) (now zeros) (now index) (now before) (now filled)) ⌝ }
+    requires { ⌜
+        Roomy (book (now starts) (now sizes) (now ones) (now zeros) (now index) (now before) (now filled))
+        × Lettered (now letters)
+        × (length (now hints) ≡ 4096) ⌝ }
     ensures { λ s. ⌜
         Ends (now (text .entry))
         (book (now (starts .exit)) (now (sizes .exit)) (now (ones .exit)) (now (zeros .exit)) (now (index .exit)) (now (before .exit)) (now (filled .exit)))
@@ -81,6 +80,8 @@ pub fn read_text(
     );
     while here.at < text.len() {
         let next = take_token(
+            letters,
+            hints,
             text,
             starts,
             sizes,
@@ -91,10 +92,10 @@ pub fn read_text(
             filled,
             here,
         );
-        let Stepped::On(there) = next else {
+        if 0 < next.refusal {
             return next;
-        };
-        here = past_blanks(text, there);
+        }
+        here = past_blanks(text, next.reading);
     }
     take_end(here)
 }

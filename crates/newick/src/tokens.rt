@@ -5,16 +5,18 @@ ghost use mathlib.Core.List.{List, _++_, map};
 ghost use Prim.Native.Nat.{ℕ, _+_, _-_, _≤_, _<_};
 ghost use lib.ListN.{length, getD, take, drop};
 ghost use Rattle.taxa.specs.Sets.{_∖_};
-ghost use Rattle.record.specs.Records as records;
 ghost use Rattle.grammar.specs.Bytes.{isBlank, isLetter, byte, left, right, comma, semicolon};
-ghost use Rattle.newick.specs.declared.Stepped.the-variants as stepped;
+ghost use Rattle.grammar.specs.inner.Standing.{Run};
+ghost use Rattle.newick.specs.inner.Runs.{Lettered};
 ghost use Rattle.newick.specs.inner.Names.{Placed};
-ghost use Rattle.newick.specs.inner.Book.{Book, book, withNames, withBrackets, withColumns, Bracketed, SignAt, Holds, Leads, withName, cladePut};
+ghost use Rattle.newick.specs.inner.Book.{Book, book, withNames, withBrackets, withColumns, Bracketed, SignAt, Holds, NameTo, Leads, standing, withName, cladePut};
 use super::Reading;
 use super::Stepped;
+use super::hints::hint;
+use super::hints::hinted;
 use super::scan::after_letters;
+use super::scan::is_letter_at;
 use super::scan::number_of;
-use record::Refusal;
 
 // The most bytes of a name, and the most names, columns and open brackets.
 const NAME_BYTES: usize = 32;
@@ -34,10 +36,38 @@ const COMMA: u8 = 44;
 
 const SEMICOLON: u8 = 59;
 
-pub fn refused(number: u8, place: usize) -> Stepped
-    ensures { λ r. ⌜ r ≡ stepped.Refused (records.refused number place) ⌝ }
+// The same reading at another place.
+pub fn standing(from: Reading, at: usize) -> Reading
+    ensures { λ r. ⌜ r ≡ standing from at ⌝ }
 {
-    Stepped::Refused(Refusal { number, place })
+    Reading {
+        at,
+        ended: from.ended,
+        finished: from.finished,
+        taxa: from.taxa,
+        columns: from.columns,
+        here: from.here,
+        opened: from.opened,
+        depth: from.depth,
+    }
+}
+
+pub fn refused(number: u8, place: usize, from: Reading) -> Stepped
+    ensures { λ r. ⌜ r ≡ record { reading = standing from place; refusal = number } ⌝ }
+{
+    Stepped {
+        reading: standing(from, place),
+        refusal: number,
+    }
+}
+
+pub fn on(reading: Reading) -> Stepped
+    ensures { λ r. ⌜ r ≡ record { reading = reading; refusal = 0 } ⌝ }
+{
+    Stepped {
+        reading,
+        refusal: 0,
+    }
 }
 
 // Behind a name, taxon i, that ends at a place; there are so many taxa now.
@@ -57,38 +87,84 @@ fn behind_name(from: Reading, end: usize, taxa: usize, i: usize) -> Reading
     }
 }
 
-// A name. A new one gets the next number.
+// A name that the file has, taxon i.
+fn take_known(from: Reading, end: usize, i: usize) -> Stepped
+    requires { ⌜ i < 64 ⌝ }
+    ensures { λ s. ⌜
+        ((text : List ℕ) (k : Book) → Holds text k from → from .ended ≡ false → NameTo text k from end i → Leads text k (from .at) s) ⌝ }
+{
+    if taxa::subset(taxa::single(i as u32), from.here) {
+        return refused(18, from.at, from);
+    }
+    on(behind_name(from, end, from.taxa, i))
+}
+
+// A name for which there is no right hint. A new one gets the next number.
+fn take_listed(
+    hints: &mut [u8; 4096],
+    text: &[u8],
+    starts: &mut [usize; 64],
+    sizes: &mut [usize; 64],
+    from: Reading,
+    end: usize,
+) -> Stepped
+    requires { ⌜
+        Placed (now text) (now starts) (now sizes) (from .taxa)
+        × Run isLetter (now text) (from .at) end
+        × (from .at < end)
+        × (end - from .at ≤ 32)
+        × (length (now hints) ≡ 4096) ⌝ }
+    ensures { λ s. ⌜
+        ((k : Book) → Holds (now (text .entry)) (withNames k (now (starts .entry)) (now (sizes .entry))) from
+        → from .ended ≡ false
+        → Leads (now (text .entry)) (withNames k (now (starts .exit)) (now (sizes .exit))) (from .at) s)
+        × (length (now (hints .exit)) ≡ 4096) ⌝ }
+{
+    let size = end - from.at;
+    let i = number_of(text, starts, sizes, from.taxa, from.at, size);
+    if TAXA <= i {
+        return refused(19, from.at, from);
+    }
+    hint(hints, text, from.at, size, i);
+    if i < from.taxa {
+        return take_known(from, end, i);
+    }
+    starts[i] = from.at;
+    sizes[i] = size;
+    on(behind_name(from, end, i + 1, i))
+}
+
+// A name, whose first letter was seen.
 fn take_name(
+    letters: &[bool; 256],
+    hints: &mut [u8; 4096],
     text: &[u8],
     starts: &mut [usize; 64],
     sizes: &mut [usize; 64],
     from: Reading,
 ) -> Stepped
-    requires { ⌜ Placed (now text) (now starts) (now sizes) (from .taxa) × (from .at < length (now text)) ⌝ }
+    requires { ⌜
+        Placed (now text) (now starts) (now sizes) (from .taxa)
+        × (from .at < length (now text))
+        × (isLetter (getD (now text) (from .at) 0) ≡ true)
+        × Lettered (now letters)
+        × (length (now hints) ≡ 4096) ⌝ }
     ensures { λ s. ⌜
         ((k : Book) → Holds (now (text .entry)) (withNames k (now (starts .entry)) (now (sizes .entry))) from
         → from .ended ≡ false
-        → isLetter (getD (now (text .entry)) (from .at) 0) ≡ true
-        → Leads (now (text .entry)) (withNames k (now (starts .exit)) (now (sizes .exit))) (from .at) s) ⌝ }
+        → Leads (now (text .entry)) (withNames k (now (starts .exit)) (now (sizes .exit))) (from .at) s)
+        × (length (now (hints .exit)) ≡ 4096) ⌝ }
 {
-    let end = after_letters(text, from.at);
+    let end = after_letters(letters, text, from.at + 1);
     let size = end - from.at;
     if NAME_BYTES < size {
-        return refused(17, from.at + NAME_BYTES);
+        return refused(17, from.at + NAME_BYTES, from);
     }
-    let i = number_of(text, starts, sizes, from.taxa, from.at, size);
+    let i = hinted(hints, text, starts, sizes, from.taxa, from.at, size);
     if i < from.taxa {
-        if taxa::subset(taxa::single(i as u32), from.here) {
-            return refused(18, from.at);
-        }
-        return Stepped::On(behind_name(from, end, from.taxa, i));
+        return take_known(from, end, i);
     }
-    if TAXA <= i {
-        return refused(19, from.at);
-    }
-    starts[i] = from.at;
-    sizes[i] = size;
-    Stepped::On(behind_name(from, end, i + 1, i))
+    take_listed(hints, text, starts, sizes, from, end)
 }
 
 // Puts the clade of the tree's bracket number i after the columns of the trees that are finished; the first bracket, the root, gives no column.
@@ -119,17 +195,17 @@ fn take_left(
         → Leads text (withBrackets k (now (ones .exit)) (now (index .exit)) (now (before .exit)) (now (filled .exit))) (from .at) s) ⌝ }
 {
     if COLUMNS < from.columns + from.opened {
-        return refused(19, from.at);
+        return refused(19, from.at, from);
     }
     if from.depth == DEPTH {
-        return refused(20, from.at);
+        return refused(20, from.at, from);
     }
     put_clade(ones, from.columns, from.opened, 0);
     let depth = from.depth;
     index[depth] = from.opened;
     before[depth] = from.here;
     filled[depth] = false;
-    Stepped::On(Reading {
+    on(Reading {
         at: next,
         ended: false,
         finished: from.finished,
@@ -158,7 +234,7 @@ fn take_right(
         → Leads text (withBrackets k (now (ones .exit)) (now (index .entry)) (now (before .entry)) (now (filled .entry))) (from .at) s) ⌝ }
 {
     if from.depth == 0 {
-        return refused(16, from.at);
+        return refused(16, from.at, from);
     }
     let last = from.depth - 1;
     if filled[last] {
@@ -168,7 +244,7 @@ fn take_right(
             index[last],
             taxa::difference(from.here, before[last]),
         );
-        return Stepped::On(Reading {
+        return on(Reading {
             at: next,
             ended: true,
             finished: from.finished,
@@ -179,7 +255,7 @@ fn take_right(
             depth: last,
         });
     }
-    refused(16, from.at)
+    refused(16, from.at, from)
 }
 
 // A comma: in the last open bracket a subtree is finished.
@@ -192,11 +268,11 @@ fn take_comma(filled: &mut [bool; 64], from: Reading, next: usize) -> Stepped
         → Leads text (withBrackets k (k .ones) (k .index) (k .before) (now (filled .exit))) (from .at) s) ⌝ }
 {
     if from.depth == 0 {
-        return refused(16, from.at);
+        return refused(16, from.at, from);
     }
     let last = from.depth - 1;
     filled[last] = true;
-    Stepped::On(Reading {
+    on(Reading {
         at: next,
         ended: false,
         finished: from.finished,
@@ -242,11 +318,11 @@ fn take_semicolon(ones: &[u64; 256], zeros: &mut [u64; 256], from: Reading, next
         → Leads text (withColumns k (now (ones .entry)) (now (zeros .exit))) (from .at) s) ⌝ }
 {
     if 0 < from.depth {
-        return refused(16, from.at);
+        return refused(16, from.at, from);
     }
     let columns = columns_with(from);
     fill_zeros(ones, zeros, from.columns, columns, from.here);
-    Stepped::On(Reading {
+    on(Reading {
         at: next,
         ended: false,
         finished: true,
@@ -260,6 +336,8 @@ fn take_semicolon(ones: &[u64; 256], zeros: &mut [u64; 256], from: Reading, next
 
 // The token at which the reader stands.
 pub fn take_token(
+    letters: &[bool; 256],
+    hints: &mut [u8; 4096],
     text: &[u8],
     starts: &mut [usize; 64],
     sizes: &mut [usize; 64],
@@ -273,11 +351,14 @@ pub fn take_token(
     requires { ⌜
         Holds (now text) (book (now starts) (now sizes) (now ones) (now zeros) (now index) (now before) (now filled)) from
         × (from .at < length (now text))
-        × (isBlank (getD (now text) (from .at) 0) ≡ false) ⌝ }
+        × (isBlank (getD (now text) (from .at) 0) ≡ false)
+        × Lettered (now letters)
+        × (length (now hints) ≡ 4096) ⌝ }
     ensures { λ s. ⌜
         Leads (now (text .entry))
         (book (now (starts .exit)) (now (sizes .exit)) (now (ones .exit)) (now (zeros .exit)) (now (index .exit)) (now (before .exit)) (now (filled .exit)))
-        (from .at) s ⌝ }
+        (from .at) s
+        × (length (now (hints .exit)) ≡ 4096) ⌝ }
 {
     let at = from.at;
     let b = text[at];
@@ -291,13 +372,13 @@ pub fn take_token(
         if b == SEMICOLON {
             return take_semicolon(ones, zeros, from, at + 1);
         }
-        return refused(16, at);
+        return refused(16, at, from);
     }
-    if grammar::is_letter(b) {
-        return take_name(text, starts, sizes, from);
+    if is_letter_at(letters, text, at) {
+        return take_name(letters, hints, text, starts, sizes, from);
     }
     if b == LEFT {
         return take_left(ones, index, before, filled, from, at + 1);
     }
-    refused(16, at)
+    refused(16, at, from)
 }

@@ -5,14 +5,15 @@ use mathlib.Core.List.{List, [], _∷_}
 use Prim.Native.Nat.{ℕ, zero, suc, _+_, _-_, _^_, _≤_, _<_}
 use lib.ListN.{length, getD, set, take, drop}
 use Rattle.taxa.specs.Sets.{_∪_}
+use Rattle.grammar.specs.Bytes.{isLetter}
 use Rattle.grammar.specs.Trees.{Trees}
+use Rattle.grammar.specs.Limits.{number}
 use Rattle.grammar.specs.Verdict.{accepted, refused}
 use Rattle.grammar.specs.inner.Shape.{Phase, beginning, ended}
-use Rattle.grammar.specs.inner.Standing.{Standing}
+use Rattle.grammar.specs.inner.Standing.{Run, piece, Standing}
 use Rattle.ledger.specs.inner.Ledger.{Ledger, Opened, unwritten, note, outcome}
 use Rattle.newick.specs.declared.Reading.{Reading}
 use Rattle.newick.specs.declared.Stepped.{Stepped}
-use Rattle.newick.specs.declared.Stepped.the-variants.{On, Refused}
 use Rattle.newick.specs.inner.Names.{Placed, namesIn}
 
 -- The reader's lists: the names' places, the columns, and the open brackets.
@@ -89,6 +90,19 @@ pub record Holds (text : List ℕ) (k : Book) (r : Reading) : Type 0 where
   pub zeros-room : length (k .zeros) ≡ 256
   pub stands : Standing note unwritten text (r .at) (phaseOf (r .ended)) (r .finished) (filledIn (k .filled) (r .depth)) (ledgerIn text k r)
 
+-- The same reading at another place.
+abbrev pub standing : Reading → ℕ → Reading
+standing r place = record {
+  at = place;
+  ended = r .ended;
+  finished = r .finished;
+  taxa = r .taxa;
+  columns = r .columns;
+  here = r .here;
+  opened = r .opened;
+  depth = r .depth;
+}
+
 -- Behind a name, taxon i, that ends at a place; there are so many taxa then.
 abbrev pub withName : Reading → ℕ → ℕ → ℕ → Reading
 withName r end taxa i = record {
@@ -113,10 +127,22 @@ pub record SignAt (text : List ℕ) (at sign next : ℕ) : Type 0 where
   pub is : getD text at 0 ≡ sign
   pub after : at + 1 ≡ next
 
+-- A name of the file, taxon i, from where the reader stands to a place.
+pub record NameTo (text : List ℕ) (k : Book) (r : Reading) (end i : ℕ) : Type 0 where
+  pub run : Run isLetter text (r .at) end
+  pub some : r .at < end
+  pub short : end - r .at ≤ 32
+  pub known : i < r .taxa
+  pub numbered : i ≡ number (namesIn text (k .starts) (k .sizes) (r .taxa)) (piece text (r .at) (end - r .at))
+
+-- What a token comes to, by the number of its refusal: with 0 the reader stands further on, else the text is refused there.
+abbrev pub LeadsBy : List ℕ → Book → ℕ → Reading → ℕ → Type 0
+LeadsBy text k from r zero = Holds text k r × (from < r .at) × (r .at ≤ length text)
+LeadsBy text k from r (suc n) = outcome text ≡ refused (suc n) (r .at)
+
 -- A token read: the reader stands further on, or the text is refused.
 abbrev pub Leads : List ℕ → Book → ℕ → Stepped → Type 0
-Leads text k from (On r) = Holds text k r × (from < r .at) × (r .at ≤ length text)
-Leads text k from (Refused why) = outcome text ≡ refused (why .number) (why .place)
+Leads text k from s = LeadsBy text k from (s .reading) (s .refusal)
 
 -- Room for 64 names, 256 columns and 64 open brackets.
 pub record Roomy (k : Book) : Type 0 where
@@ -129,6 +155,9 @@ pub record Roomy (k : Book) : Type 0 where
   pub filled-room : length (k .filled) ≡ 64
 
 -- The text read to its end: it is accepted with the ledger that the lists hold, or refused.
+abbrev pub EndsBy : List ℕ → Book → Reading → ℕ → Type 0
+EndsBy text k r zero = Holds text k r × (ts : Trees) × (outcome text ≡ accepted ts (ledgerIn text k r))
+EndsBy text k r (suc n) = outcome text ≡ refused (suc n) (r .at)
+
 abbrev pub Ends : List ℕ → Book → Stepped → Type 0
-Ends text k (On r) = Holds text k r × (ts : Trees) × (outcome text ≡ accepted ts (ledgerIn text k r))
-Ends text k (Refused why) = outcome text ≡ refused (why .number) (why .place)
+Ends text k s = EndsBy text k (s .reading) (s .refusal)

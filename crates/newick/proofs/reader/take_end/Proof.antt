@@ -10,7 +10,8 @@ take-end-spec =
     (tie.spec
     (λ c κs. search needs)
     (λ c. λ text k h e. rw (c .refused .ensures) (end-after-subtree h e (search needs)))
-    (λ c. λ text k h e. let (ts, f) = end-taken h e (search needs) (search needs) (search needs) in (h, ts, f))
+    (λ c κs. search needs)
+    (λ c. λ text k h e. rw (c .on .ensures) (let (ts, f) = end-taken h e (search needs) (search needs) (search needs) in (h, ts, f)))
     (λ c κs. search needs)
     (λ c. λ text k h e. rw (c .refused2 .ensures) (end-inside h e (search needs)))
     (λ c κs. search needs)

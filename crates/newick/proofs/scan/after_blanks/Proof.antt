@@ -4,7 +4,8 @@ use mathlib.Core.Path.{sym, _∙_}
 use Prim.Native.Nat.{_-_}
 use lib.ListN.{length}
 use Rattle.grammar.specs.Bytes.{isBlank}
-use Rattle.newick.proofs.Runs.{Sofar, none-yet, one-more, stops-here, stops-at-end}
+use Rattle.newick.specs.inner.Runs.{Sofar}
+use Rattle.newick.proofs.Runs.{none-yet, one-more, stops-here, stops-at-end}
 use Rattle.newick.proofs.scan.after_blanks.Statement.{statement}
 use Rattle.newick.proofs.scan.after_blanks.Tie as tie
 

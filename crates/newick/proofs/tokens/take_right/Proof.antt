@@ -16,8 +16,9 @@ put-clade-requires c κs =
 
 returns-2 : tie.Need-returns-2
 returns-2 c = λ text k h e s.
-    let closed = right-taken h e s _ (omega arith) (c .before .before .before .before .before .if2 .taken) in
-    rw (c .put-clade .ensures, c .before .difference .ensures) (closed, omega (arith, s .after), omega (arith, s .after, s .inside))
+    let put = c .before in
+    let closed = right-taken h e s _ (omega arith) (put .before .before .before .before .before .if2 .taken) in
+    rw (c .on .ensures, put .put-clade .ensures, put .before .difference .ensures) (closed, omega (arith, s .after), omega (arith, s .after, s .inside))
 
 returns-3 : tie.Need-returns-3
 returns-3 c = λ text k h e s. rw (c .refused2 .ensures) (right-too-soon h e s _ (omega arith) (c .before .if2 .left))
@@ -36,6 +37,7 @@ take-right-spec =
     (λ c. search needs)
     (λ c κs. search needs)
     put-clade-requires
+    (λ c κs. search needs)
     returns-2
     (λ c κs. search needs)
     returns-3)

@@ -10,8 +10,10 @@ returns c = λ text k h e s. rw (c .refused .ensures) (semicolon-inside h e s (c
 
 returns-2 : tie.Need-returns-2
 returns-2 c = λ text k h e s.
-    let (new, room) = c .fill-zeros .ensures in
-    (semicolon-taken h e s _ _ (omega arith) (c .before .before .columns-with .ensures) room new, omega (arith, s .after), omega (arith, s .after, s .inside))
+    let filled = c .before in
+    let (new, room) = filled .fill-zeros .ensures in
+    rw (c .on .ensures)
+    (semicolon-taken h e s _ _ (omega arith) (filled .before .before .columns-with .ensures) room new, omega (arith, s .after), omega (arith, s .after, s .inside))
 
 pub take-semicolon-spec : {M : Type 1} → statement M
-take-semicolon-spec = tie.close (tie.spec (λ c κs. search needs) returns (λ c κs. search needs) (λ c κs. search needs) returns-2)
+take-semicolon-spec = tie.close (tie.spec (λ c κs. search needs) returns (λ c κs. search needs) (λ c κs. search needs) (λ c κs. search needs) returns-2)

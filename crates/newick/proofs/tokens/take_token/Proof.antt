@@ -1,8 +1,10 @@
 -- `newick::tokens::take_token` meets its contract: each token by its own function.
 use borrow.Author.Needs.{needs}
 use mathlib.Core.Path.{_≡_, refl, sym, _∙_}
+use mathlib.Core.Bool.{true}
 use Prim.Native.Nat.{ℕ, _+_}
 use lib.ListN.{getD}
+use Rattle.grammar.specs.Bytes.{isLetter}
 use Rattle.newick.specs.inner.Book.{Book, book, SignAt}
 use Rattle.newick.proofs.Book.{wrong-after, wrong-before}
 use Rattle.newick.proofs.tokens.take_token.Statement.{statement}
@@ -22,40 +24,50 @@ sign-here c e = record { inside = c .pre .1; is = e; after = refl }
 returns : tie.Need-returns
 returns c =
     let start = c .before .before .before .before .before .before .before .before .before in
-    c .take-right .ensures (start .args .text .now) (lists start) (start .pre .0) (search needs) (sign-here start (search needs))
+    (c .take-right .ensures (start .args .text .now) (lists start) (start .pre .0) (search needs) (sign-here start (search needs)), start .pre .4)
 
 returns-2 : tie.Need-returns-2
 returns-2 c =
     let start = c .before .before .before .before .before .before .before in
-    c .take-comma .ensures (start .args .text .now) (lists start) (start .pre .0) (search needs) (sign-here start (search needs))
+    (c .take-comma .ensures (start .args .text .now) (lists start) (start .pre .0) (search needs) (sign-here start (search needs)), start .pre .4)
 
 returns-3 : tie.Need-returns-3
 returns-3 c =
     let start = c .before .before .before .before .before .before .before .before .before in
-    c .take-semicolon .ensures (start .args .text .now) (lists start) (start .pre .0) (search needs) (sign-here start (search needs))
+    (c .take-semicolon .ensures (start .args .text .now) (lists start) (start .pre .0) (search needs) (sign-here start (search needs)), start .pre .4)
 
 returns-4 : tie.Need-returns-4
 returns-4 c =
     let pre = c .before .before .before .before .before .before .before .pre in
-    rw (c .refused .ensures) (wrong-after (pre .0) (search needs) (pre .1) (pre .2) (search needs) (search needs) (search needs))
+    rw (c .refused .ensures) (wrong-after (pre .0) (search needs) (pre .1) (pre .2) (search needs) (search needs) (search needs), pre .4)
+
+-- The test of a letter was met.
+letter : (c : tie.Then5) →
+    isLetter (getD (c .before .before .before .before .before .args .text .now) (c .before .before .before .before .before .args .from .at) 0) ≡ true
+letter c = sym (c .before .is-letter-at .ensures) ∙ c .if5 .taken
+
+take-name-requires : tie.Need-take-name-requires
+take-name-requires c κs =
+    let tested = c .before .before .before in
+    let pre = tested .before .before .before .before .before .pre in
+    (pre .0 .placed, pre .1, letter tested, pre .3, pre .4)
 
 returns-5 : tie.Need-returns-5
 returns-5 c =
-    let start = c .before .before .before .before .before .before .before .before in
-    let tested = c .before .before .before in
-    c .take-name .ensures (lists start) (start .pre .0) (search needs) (sym (tested .before .is-letter .ensures) ∙ tested .if5 .taken)
+    let start = c .before .before .before .before .before .before .before .before .before in
+    (c .take-name .ensures .0 (lists start) (start .pre .0) (search needs), c .take-name .ensures .1)
 
 returns-6 : tie.Need-returns-6
 returns-6 c =
     let start = c .before .before .before .before .before .before .before .before .before .before .before in
-    c .take-left .ensures (start .args .text .now) (lists start) (start .pre .0) (search needs) (sign-here start (search needs))
+    (c .take-left .ensures (start .args .text .now) (lists start) (start .pre .0) (search needs) (sign-here start (search needs)), start .pre .4)
 
 returns-7 : tie.Need-returns-7
 returns-7 c =
     let tested = c .before .before in
     let pre = tested .before .before .before .before .before .pre in
-    let no-letter = sym (tested .before .is-letter .ensures) ∙ tested .if5 .left in
-    rw (c .refused2 .ensures) (wrong-before (pre .0) (search needs) (pre .1) (pre .2) no-letter (search needs))
+    let no-letter = sym (tested .before .is-letter-at .ensures) ∙ tested .if5 .left in
+    rw (c .refused2 .ensures) (wrong-before (pre .0) (search needs) (pre .1) (pre .2) no-letter (search needs), pre .4)
 
 pub take-token-spec : {M : Type 1} → statement M
 take-token-spec =
@@ -74,7 +86,7 @@ take-token-spec =
     (λ c κs. search needs)
     returns-4
     (λ c κs. search needs)
-    (λ c κs. search needs)
+    take-name-requires
     returns-5
     (λ c. search needs)
     (λ c κs. search needs)
