@@ -23,7 +23,8 @@ use Rattle.grammar.proofs.Standing.{starts, ends, ends-unfinished, ends-treeles
 use Rattle.ledger.specs.inner.Ledger.{Ledger, unwritten, note, outcome, wrongs, keep, opening, entering, known}
 use Rattle.newick.specs.declared.Reading.{Reading}
 use Rattle.newick.specs.inner.Names.{namesIn}
-use Rattle.newick.specs.inner.Book.{Book, withNames, withBrackets, withColumns, bracketsIn, filledIn, ledgerIn, Holds, SignAt, LeadsBy, EndsBy, standing, cladePut, withName, Roomy}
+use Rattle.newick.specs.inner.Book.{Book, withNames, withBrackets, withColumns, bracketsIn, filledIn, ledgerIn, Holds, SignAt}
+use Rattle.newick.specs.inner.Book.{LeadsBy, EndsBy, standing, cladePut, withName, Roomy}
 use Rattle.newick.proofs.Names.{one-further, number-most, length-names, names-more, new-one}
 
 -- ---- the lists of open brackets
@@ -400,6 +401,9 @@ module _ {text : List ℕ} {k : Book} {r : Reading} (h : Holds text k r) where
         abbrev sizes-now : List ℕ
         sizes-now = set (k .sizes) i (end - r .at)
 
+        abbrev name-now : ℕ → Bytes
+        name-now j = piece text (getD starts-now j 0) (getD sizes-now j 0)
+
         start-kept : (j : ℕ) → j < i → getD starts-now j 0 ≡ getD (k .starts) j 0
         start-kept j b = getD-set-other (k .starts) i j (r .at) 0 (λ q. absurd (omega arith))
 
@@ -434,7 +438,7 @@ module _ {text : List ℕ} {k : Book} {r : Reading} (h : Holds text k r) where
                     (rw (start-new f, size-new f) (omega (arith, run .within)));
                 short = one-further (λ j. getD sizes-now j 0 ≤ 32) (λ j b. rw (size-kept j b) (p .short j (omega (arith, new)))) (rw (size-new f) short);
                 apart = one-further
-                    (λ a. (j : ℕ) → j < a → equal (piece text (getD starts-now a 0) (getD sizes-now a 0)) (piece text (getD starts-now j 0) (getD sizes-now j 0)) ≡ false)
+                    (λ a. (j : ℕ) → j < a → equal (name-now a) (name-now j) ≡ false)
                     (λ a b j q. rw (start-kept a b, size-kept a b, start-kept j (omega arith), size-kept j (omega arith)) (p .apart a (omega (arith, new)) j q))
                     (λ j q. rw (start-new f, size-new f, start-kept j q, size-kept j q)
                     (new-one text (k .starts) (k .sizes) (r .taxa) read (omega (arith, e)) j (omega (arith, new))));

@@ -47,20 +47,22 @@ module _ {text : List ℕ} (f : File text) where
       let low = unshifted (numberAt 8 text a) (numberAt 8 text b) (8 * size) (64 - 8 * size) (rw (← width) e) in
       piece-of-word a size (8 - size) rest (p .word) ∙ ap (bytesOf size) low ∙ sym (piece-of-word b size (8 - size) rest (q .word))
 
+  byte-in : (at k i : ℕ) → i < k → getD (piece text at k) i 0 ≡ getD text (at + i) 0
+  byte-in at k i l = rw (getD-take, getD-drop)
+
   -- A byte of two words that are the same.
-  byte-of-words : (p q d : ℕ) → d < 8 → p + 8 ≤ length text → q + 8 ≤ length text → numberAt 8 text p ≡ numberAt 8 text q → getD text (p + d) 0 ≡ getD text (q + d) 0
+  byte-of-words : (p q d : ℕ) → d < 8 → p + 8 ≤ length text → q + 8 ≤ length text → numberAt 8 text p ≡ numberAt 8 text q
+      → getD text (p + d) 0 ≡ getD text (q + d) 0
   byte-of-words p q d l m n e =
       let same : piece text p 8 ≡ piece text q 8 =
       piece-of-word p 8 0 refl m ∙ ap (λ (x : ℕ). bytesOf 8 (x % 2 ^ 64)) e ∙ sym (piece-of-word q 8 0 refl n)
       in
-      sym (byte-in p) ∙ ap (λ (b : List ℕ). getD b d 0) same ∙ byte-in q
-    where
-      byte-in : (s : ℕ) → getD (piece text s 8) d 0 ≡ getD text (s + d) 0
-      byte-in s = rw (getD-take, getD-drop)
+      sym (byte-in p 8 d l) ∙ ap (λ (b : List ℕ). getD b d 0) same ∙ byte-in q 8 d l
 
   -- Long names: each byte is one of a word.
   module _ (a b size : ℕ) (p : Legible text a size) (q : Legible text b size) (l : 8 ≤ size) (e : wordsAt text a size ≡ wordsAt text b size) where
-    word-at : (o : ℕ) → o + 8 ≤ size → numberAt 8 text (a + o) ≡ numberAt 8 text (b + o) → (i : ℕ) → o ≤ i → i < o + 8 → getD text (a + i) 0 ≡ getD text (b + i) 0
+    word-at : (o : ℕ) → o + 8 ≤ size → numberAt 8 text (a + o) ≡ numberAt 8 text (b + o) → (i : ℕ) → o ≤ i → i < o + 8
+        → getD text (a + i) 0 ≡ getD text (b + i) 0
     word-at o m same i from to =
         let x : a + o + (i - o) ≡ a + i = omega arith in
         let y : b + o + (i - o) ≡ b + i = omega arith in
@@ -79,7 +81,4 @@ module _ {text : List ℕ} (f : File text) where
     long-same =
         let m = piece-length text a size (p .inside) in
         ext-getD 0 (piece text a size) (piece text b size) (m ∙ sym (piece-length text b size (q .inside)))
-        (λ i l. byte-in a i (omega arith) ∙ same-byte i (omega arith) ∙ sym (byte-in b i (omega arith)))
-      where
-        byte-in : (s i : ℕ) → i < size → getD (piece text s size) i 0 ≡ getD text (s + i) 0
-        byte-in s i b = rw (getD-take, getD-drop)
+        (λ i l. byte-in a size i (omega arith) ∙ same-byte i (omega arith) ∙ sym (byte-in b size i (omega arith)))

@@ -1,4 +1,5 @@
-// Hints: for some bytes of a name, the taxon that had them last. A hint is tested before it is taken, so that nothing rests on what stands in the list.
+// Hints: a list with, at a place that is found from a name's bytes, the taxon that was last met there. A hint is tested before it is taken, so that
+// nothing rests on what stands in the list.
 ghost use mathlib.Core.Path.{_≡_};
 ghost use mathlib.Core.Bool.{true};
 ghost use Prim.Native.Nat.{_+_, _≤_, _<_, min};
@@ -13,22 +14,22 @@ use record::number::u64_at;
 // The bytes of a word.
 const WORD: usize = 8;
 
-// Half a word, and what mixes it: some odd number of 27 bits.
+// How many hints there are.
+pub const HINTS: usize = 4096;
+
+// Half a word; an odd number of 27 bits that mixes its digits; and the digits below those that are best mixed.
 const HALF: u64 = 0x1_0000_0000;
 
-const MIX: u64 = 97_990_693;
+const MIXER: u64 = 97_990_693;
 
-// Where in a mixed half the place of a hint stands, and how many places there are.
-const MIXED: u64 = 0x10_0000;
+const BELOW: u64 = 0x10_0000;
 
-const PLACES: u64 = 4096;
-
-// The place of the hint for a word: both its halves, mixed.
+// The place of the hint for a word: its two halves together, mixed.
 fn place_of_word(word: u64) -> usize
     ensures { λ r. ⌜ r < 4096 ⌝ }
 {
     let halves = word / HALF + word % HALF;
-    (halves * MIX / MIXED % PLACES) as usize
+    (halves * MIXER / BELOW) as usize % HINTS
 }
 
 // The lesser of two numbers.
@@ -108,7 +109,7 @@ fn taxon(hint: u8) -> usize
 
 // The number of a name among the first n taxa, where the hint at it is right, and else n.
 pub fn hinted(
-    hints: &[u8; 4096],
+    hints: &[u8; HINTS],
     text: &[u8],
     starts: &[usize; 64],
     sizes: &[usize; 64],
@@ -116,7 +117,12 @@ pub fn hinted(
     at: usize,
     size: usize,
 ) -> usize
-    requires { ⌜ Placed (now text) (now starts) (now sizes) n × (1 ≤ size) × (size ≤ 32) × (at + size ≤ length (now text)) × (length (now hints) ≡ 4096) ⌝ }
+    requires { ⌜
+        Placed (now text) (now starts) (now sizes) n
+        × (1 ≤ size)
+        × (size ≤ 32)
+        × (at + size ≤ length (now text))
+        × (length (now hints) ≡ 4096) ⌝ }
     ensures { λ r. ⌜
         (r < n → r ≡ number (namesIn (now (text .entry)) (now (starts .entry)) (now (sizes .entry)) n) (piece (now (text .entry)) at size)) ⌝ }
 {
@@ -138,7 +144,7 @@ pub fn hinted(
 }
 
 // Hints at taxon i from the name at a place.
-pub fn hint(hints: &mut [u8; 4096], text: &[u8], at: usize, size: usize, i: usize)
+pub fn hint(hints: &mut [u8; HINTS], text: &[u8], at: usize, size: usize, i: usize)
     requires { ⌜ (1 ≤ size) × (size ≤ 32) × (at + size ≤ length (now text)) × (i < 64) × (length (now hints) ≡ 4096) ⌝ }
     ensures { λ _. ⌜ length (now (hints .exit)) ≡ 4096 ⌝ }
 {

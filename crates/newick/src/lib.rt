@@ -7,6 +7,7 @@ mod reader;
 mod scan;
 mod tokens;
 
+use hints::HINTS;
 use matrix::writer::put_matrix;
 use record::Refusal;
 ghost use mathlib.Core.Path.{_≡_};
@@ -94,7 +95,7 @@ fn write_found(
 // The operation, with the lists that the reader keeps.
 fn read_with(
     letters: &[bool; 256],
-    hints: &mut [u8; 4096],
+    hints: &mut [u8; HINTS],
     text: &[u8],
     matrix: &mut [u8],
     names: &mut [u8],
@@ -150,7 +151,7 @@ pub fn read(text: &[u8], matrix: &mut [u8], names: &mut [u8]) -> Derived
 {
     read_with(
         &scan::letter_table(),
-        &mut [0u8; 4096],
+        &mut [0u8; HINTS],
         text,
         matrix,
         names,

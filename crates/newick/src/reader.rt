@@ -9,6 +9,7 @@ ghost use Rattle.newick.specs.inner.Runs.{Lettered};
 ghost use Rattle.newick.specs.inner.Book.{Book, book, Holds, Ends, Roomy};
 use super::Reading;
 use super::Stepped;
+use super::hints::HINTS;
 use super::scan::after_blanks;
 use super::tokens::on;
 use super::tokens::refused;
@@ -46,7 +47,7 @@ fn take_end(from: Reading) -> Stepped
 // The whole text.
 pub fn read_text(
     letters: &[bool; 256],
-    hints: &mut [u8; 4096],
+    hints: &mut [u8; HINTS],
     text: &[u8],
     starts: &mut [usize; 64],
     sizes: &mut [usize; 64],

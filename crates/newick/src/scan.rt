@@ -79,7 +79,7 @@ fn after_each_letter(letters: &[bool; 256], text: &[u8], from: usize) -> usize
     at
 }
 
-// The end of the letters that start at a place: four by four as long as there are four bytes, which asks half as often where the text ends.
+// The end of the letters that start at a place: four by four while there are four bytes, so that the text's end is asked for once in four.
 pub fn after_letters(letters: &[bool; 256], text: &[u8], from: usize) -> usize
     requires { ⌜ Lettered (now letters) × (from ≤ length (now text)) ⌝ }
     ensures { λ r. ⌜ Run isLetter (now (text .entry)) from r ⌝ }

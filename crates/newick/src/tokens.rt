@@ -9,9 +9,11 @@ ghost use Rattle.grammar.specs.Bytes.{isBlank, isLetter, byte, left, right, com
 ghost use Rattle.grammar.specs.inner.Standing.{Run};
 ghost use Rattle.newick.specs.inner.Runs.{Lettered};
 ghost use Rattle.newick.specs.inner.Names.{Placed};
-ghost use Rattle.newick.specs.inner.Book.{Book, book, withNames, withBrackets, withColumns, Bracketed, SignAt, Holds, NameTo, Leads, standing, withName, cladePut};
+ghost use Rattle.newick.specs.inner.Book.{Book, book, withNames, withBrackets, withColumns, Bracketed, SignAt, Holds};
+ghost use Rattle.newick.specs.inner.Book.{NameTo, Leads, standing, withName, cladePut};
 use super::Reading;
 use super::Stepped;
+use super::hints::HINTS;
 use super::hints::hint;
 use super::hints::hinted;
 use super::scan::after_letters;
@@ -101,7 +103,7 @@ fn take_known(from: Reading, end: usize, i: usize) -> Stepped
 
 // A name for which there is no right hint. A new one gets the next number.
 fn take_listed(
-    hints: &mut [u8; 4096],
+    hints: &mut [u8; HINTS],
     text: &[u8],
     starts: &mut [usize; 64],
     sizes: &mut [usize; 64],
@@ -137,7 +139,7 @@ fn take_listed(
 // A name, whose first letter was seen.
 fn take_name(
     letters: &[bool; 256],
-    hints: &mut [u8; 4096],
+    hints: &mut [u8; HINTS],
     text: &[u8],
     starts: &mut [usize; 64],
     sizes: &mut [usize; 64],
@@ -337,7 +339,7 @@ fn take_semicolon(ones: &[u64; 256], zeros: &mut [u64; 256], from: Reading, next
 // The token at which the reader stands.
 pub fn take_token(
     letters: &[bool; 256],
-    hints: &mut [u8; 4096],
+    hints: &mut [u8; HINTS],
     text: &[u8],
     starts: &mut [usize; 64],
     sizes: &mut [usize; 64],

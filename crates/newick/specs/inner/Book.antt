@@ -154,10 +154,11 @@ pub record Roomy (k : Book) : Type 0 where
   pub before-room : length (k .before) ≡ 64
   pub filled-room : length (k .filled) ≡ 64
 
--- The text read to its end: it is accepted with the ledger that the lists hold, or refused.
+-- What the text comes to at its end, likewise: it is accepted with the ledger that the lists hold, or refused.
 abbrev pub EndsBy : List ℕ → Book → Reading → ℕ → Type 0
 EndsBy text k r zero = Holds text k r × (ts : Trees) × (outcome text ≡ accepted ts (ledgerIn text k r))
 EndsBy text k r (suc n) = outcome text ≡ refused (suc n) (r .at)
 
+-- The text read to its end.
 abbrev pub Ends : List ℕ → Book → Stepped → Type 0
 Ends text k s = EndsBy text k (s .reading) (s .refusal)

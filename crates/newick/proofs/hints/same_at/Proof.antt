@@ -24,7 +24,8 @@ returns-2 c e =
     let one = other .before in
     let known = one .before .before in
     let start = known .before in
-    long-same (bytes known) _ _ _ (start .pre .0) (start .pre .1) (search needs) (sym (one .words-at .ensures) ∙ c .same-words .ensures e ∙ other .words-at2 .ensures)
+    long-same (bytes known) _ _ _ (start .pre .0) (start .pre .1) (search needs)
+    (sym (one .words-at .ensures) ∙ c .same-words .ensures e ∙ other .words-at2 .ensures)
 
 pub same-at-spec : {M : Type 1} → statement M
 same-at-spec =

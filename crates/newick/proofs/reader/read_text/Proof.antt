@@ -17,7 +17,8 @@ Inv-loop letters hints₀ text starts₀ sizes₀ ones₀ zeros₀ index₀ befo
     × (here .at < length text → isBlank (getD text (here .at) 0) ≡ false) × (length hints ≡ 4096)
 
 abbrev μ-loop : tie.MeasureT-loop
-μ-loop letters hints₀ text starts₀ sizes₀ ones₀ zeros₀ index₀ before₀ filled₀ here₀ hints starts sizes ones zeros index before filled here = length text - here .at
+μ-loop letters hints₀ text starts₀ sizes₀ ones₀ zeros₀ index₀ before₀ filled₀ here₀ hints starts sizes ones zeros index before filled here =
+    length text - here .at
 
 loop-holds : tie.Need-loop-holds Inv-loop μ-loop
 loop-holds c =

@@ -3,8 +3,6 @@ use borrow.Author.Needs.{needs}
 use native.Mathlib.Omega.{arith}
 use Rattle.newick.proofs.scan.is_letter_at.Statement.{statement}
 use Rattle.newick.proofs.scan.is_letter_at.Tie as tie
-use Rattle.newick.proofs.scan.is_letter_at.Reads as reads
-use Rattle.newick.proofs.scan.is_letter_at.Lts as lts
 
 cast-result : tie.Need-cast-result
 cast-result c = omega (arith, c .shared-slice-known .given (c .before .args .at))

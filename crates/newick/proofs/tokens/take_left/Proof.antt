@@ -13,7 +13,8 @@ returns-2 c = λ text k h e s. rw (c .refused2 .ensures) (left-20 h e s (omega a
 
 returns-3 : tie.Need-returns-3
 returns-3 c = λ text k h e s.
-    rw (c .on .ensures, c .before .before .put-clade .ensures) (left-taken h e s (omega arith) (omega arith), omega (arith, s .after), omega (arith, s .after, s .inside))
+    rw (c .on .ensures, c .before .before .put-clade .ensures)
+    (left-taken h e s (omega arith) (omega arith), omega (arith, s .after), omega (arith, s .after, s .inside))
 
 pub take-left-spec : {M : Type 1} → statement M
 take-left-spec =

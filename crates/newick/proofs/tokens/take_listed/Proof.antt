@@ -16,8 +16,12 @@ returns-2 : tie.Need-returns-2
 returns-2 c =
     let hinted = c .before .before .before in
     let numbered = hinted .before .before .before in
-    let pre = numbered .before .before .before .before .before .pre in
-    (λ k h e. c .take-known .ensures _ _ h e (record { run = pre .1; some = pre .2; short = pre .3; known = search needs; numbered = numbered .number-of .ensures }), hinted .hint .ensures)
+    let pre = numbered .before .before .before .before .before .pre in (
+      λ k h e.
+          c .take-known .ensures _ _ h e
+          (record { run = pre .1; some = pre .2; short = pre .3; known = search needs; numbered = numbered .number-of .ensures }),
+      hinted .hint .ensures,
+    )
 
 returns-3 : tie.Need-returns-3
 returns-3 c =
