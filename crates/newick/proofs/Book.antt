@@ -1,6 +1,6 @@
 -- Each token, as the reader's lists hold what is kept of it: from a place between tokens to the next, or to a refusal.
 use mathlib.Core.Path.{_≡_, refl, sym, ap, _∙_}
-use mathlib.Core.Bool.{Bool, true, false, cond}
+use mathlib.Core.Bool.{Bool, true, false, cond, true≢false}
 use mathlib.Core.List.{List, [], _∷_, _++_, map, map-append, append-assoc, append-nil}
 use Prim.Native.Nat.{ℕ, zero, suc, _+_, _-_, _^_, _≤_, _<_}
 use native.Mathlib.Numerals.{add-one}
@@ -8,7 +8,7 @@ use native.Mathlib.Omega.{arith}
 use lib.Dec.{eqb, ltb}
 use lib.ListN.{length, getD, set, take, drop, length-set, length-drop}
 use lib.Seq.{getD-set-same, getD-set-other, take-set-le, drop-set-add, take-set-lt, take-suc, take-suc-set, take-add, length-take-le, getD-drop}
-use borrow.Author.Tests.{ne-eqb, lt-ltb, le-ltb}
+use borrow.Author.Tests.{eqb-true, ne-eqb, lt-ltb, le-ltb}
 use Rattle.taxa.specs.Sets.{_∖_, within}
 use Rattle.grammar.specs.Bytes.{byte, isBlank, isLetter, left, right, comma, semicolon}
 use Rattle.grammar.specs.Trees.{Trees, word, sign}
@@ -24,7 +24,7 @@ use Rattle.ledger.specs.inner.Ledger.{Ledger, unwritten, note, outcome, wrongs,
 use Rattle.newick.specs.declared.Reading.{Reading}
 use Rattle.newick.specs.inner.Names.{namesIn}
 use Rattle.newick.specs.inner.Book.{Book, withNames, withBrackets, withColumns, bracketsIn, filledIn, ledgerIn, Holds, SignAt}
-use Rattle.newick.specs.inner.Book.{LeadsBy, EndsBy, standing, cladePut, withName, Roomy}
+use Rattle.newick.specs.inner.Book.{mayFollow, LeadsBy, EndsBy, standing, cladePut, withName, Roomy}
 use Rattle.newick.proofs.Names.{one-further, number-most, length-names, names-more, new-one}
 
 -- ---- the lists of open brackets
@@ -448,12 +448,30 @@ module _ {text : List ℕ} {k : Book} {r : Reading} (h : Holds text k r) where
               stands = rw (new, taxa-now) (rw new at stands);
             }
 
+-- ---- the signs that may stand behind a subtree
+
+-- One that is no bracket and no comma,
+pub last-sign : (b : ℕ) → mayFollow b ≡ true → (b ≡ byte right → ⊥) → (b ≡ byte comma → ⊥) → b ≡ byte semicolon
+last-sign b e n m = eqb-true b (byte semicolon) (rw (ne-eqb b (byte right) n, ne-eqb b (byte comma) m) at e)
+
+-- .. and a byte that is none of them.
+pub no-sign : (b : ℕ) → mayFollow b ≡ false → (b ≡ byte right → ⊥) × (b ≡ byte comma → ⊥) × (b ≡ byte semicolon → ⊥)
+no-sign b e = (
+  λ q. absurd (true≢false (rw q at e)),
+  λ q. absurd (true≢false (rw q at e)),
+  λ q. absurd (true≢false (rw q at e)),
+)
+
 -- ---- by the number of a refusal
 
 module _ (text : List ℕ) (k : Book) (r : Reading) where
   pub led-on : (from n : ℕ) → n ≤ 0 → LeadsBy text k from r n → Holds text k r × (from < r .at) × (r .at ≤ length text)
   led-on from zero l s = s
   led-on from (suc n) l s = absurd (omega arith)
+
+  pub led-from-sooner : (from later n : ℕ) → from < later → LeadsBy text k later r n → LeadsBy text k from r n
+  led-from-sooner from later zero l (h, after, within) = (h, omega (arith, after), within)
+  led-from-sooner from later (suc n) l s = s
 
   pub led-to-end : (from n : ℕ) → 0 < n → LeadsBy text k from r n → EndsBy text k r n
   led-to-end from zero l s = absurd (omega arith)

@@ -10,7 +10,7 @@ ghost use Rattle.grammar.specs.inner.Standing.{Run};
 ghost use Rattle.newick.specs.inner.Runs.{Lettered};
 ghost use Rattle.newick.specs.inner.Names.{Placed};
 ghost use Rattle.newick.specs.inner.Book.{Book, book, withNames, withBrackets, withColumns, Bracketed, SignAt, Holds};
-ghost use Rattle.newick.specs.inner.Book.{NameTo, Leads, standing, withName, cladePut};
+ghost use Rattle.newick.specs.inner.Book.{NameTo, Leads, standing, withName, cladePut, mayFollow};
 use super::Reading;
 use super::Stepped;
 use super::hints::HINTS;
@@ -336,6 +336,81 @@ fn take_semicolon(ones: &[u64; 256], zeros: &mut [u64; 256], from: Reading, next
     })
 }
 
+// Whether a byte is a sign that may stand behind a subtree.
+fn may_follow(b: u8) -> bool
+    ensures { λ r. ⌜ r ≡ mayFollow b ⌝ }
+{
+    (b == RIGHT) | (b == COMMA) | (b == SEMICOLON)
+}
+
+// Such a sign, at which the reader stands behind a subtree.
+fn take_sign(
+    text: &[u8],
+    ones: &mut [u64; 256],
+    zeros: &mut [u64; 256],
+    index: &[usize; 64],
+    before: &[u64; 64],
+    filled: &mut [bool; 64],
+    from: Reading,
+) -> Stepped
+    requires { ⌜
+        Bracketed (now ones) (now index) (now before) (now filled) (from .columns) (from .opened) (from .depth)
+        × (length (now zeros) ≡ 256)
+        × (from .at < length (now text))
+        × (mayFollow (getD (now text) (from .at) 0) ≡ true) ⌝ }
+    ensures { λ s. ⌜
+        ((starts sizes : List ℕ) → Holds (now (text .entry))
+        (book starts sizes (now (ones .entry)) (now (zeros .entry)) (now (index .entry)) (now (before .entry)) (now (filled .entry))) from
+        → from .ended ≡ true
+        → Leads (now (text .entry))
+        (book starts sizes (now (ones .exit)) (now (zeros .exit)) (now (index .entry)) (now (before .entry)) (now (filled .exit))) (from .at) s) ⌝ }
+{
+    let at = from.at;
+    let b = text[at];
+    if b == RIGHT {
+        return take_right(ones, index, before, filled, from, at + 1);
+    }
+    if b == COMMA {
+        return take_comma(filled, from, at + 1);
+    }
+    take_semicolon(ones, zeros, from, at + 1)
+}
+
+// What a name comes to, with the sign right behind it if there is one: that saves most turns of the reader.
+fn with_sign(
+    text: &[u8],
+    ones: &mut [u64; 256],
+    zeros: &mut [u64; 256],
+    index: &[usize; 64],
+    before: &[u64; 64],
+    filled: &mut [bool; 64],
+    named: Stepped,
+) -> Stepped
+    requires { ⌜
+        (named .refusal ≤ 0
+        → Bracketed (now ones) (now index) (now before) (now filled) (named .reading .columns) (named .reading .opened) (named .reading .depth)
+        × (length (now zeros) ≡ 256)) ⌝ }
+    ensures { λ s. ⌜
+        ((starts sizes : List ℕ) (from : ℕ) → Leads (now (text .entry))
+        (book starts sizes (now (ones .entry)) (now (zeros .entry)) (now (index .entry)) (now (before .entry)) (now (filled .entry))) from named
+        → Leads (now (text .entry))
+        (book starts sizes (now (ones .exit)) (now (zeros .exit)) (now (index .entry)) (now (before .entry)) (now (filled .exit))) from s) ⌝ }
+{
+    if 0 < named.refusal {
+        return named;
+    }
+    let behind = named.reading;
+    let at = behind.at;
+    if behind.ended {
+        if at < text.len() {
+            if may_follow(text[at]) {
+                return take_sign(text, ones, zeros, index, before, filled, behind);
+            }
+        }
+    }
+    named
+}
+
 // The token at which the reader stands.
 pub fn take_token(
     letters: &[bool; 256],
@@ -365,19 +440,14 @@ pub fn take_token(
     let at = from.at;
     let b = text[at];
     if from.ended {
-        if b == RIGHT {
-            return take_right(ones, index, before, filled, from, at + 1);
-        }
-        if b == COMMA {
-            return take_comma(filled, from, at + 1);
-        }
-        if b == SEMICOLON {
-            return take_semicolon(ones, zeros, from, at + 1);
+        if may_follow(b) {
+            return take_sign(text, ones, zeros, index, before, filled, from);
         }
         return refused(16, at, from);
     }
     if is_letter_at(letters, text, at) {
-        return take_name(letters, hints, text, starts, sizes, from);
+        let named = take_name(letters, hints, text, starts, sizes, from);
+        return with_sign(text, ones, zeros, index, before, filled, named);
     }
     if b == LEFT {
         return take_left(ones, index, before, filled, from, at + 1);

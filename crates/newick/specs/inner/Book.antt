@@ -1,11 +1,12 @@
 -- What the reader keeps in its lists, as the ledger that they hold, and where it stands.
 use mathlib.Core.Path.{_≡_}
-use mathlib.Core.Bool.{Bool, true, false}
+use mathlib.Core.Bool.{Bool, true, false, _||_}
 use mathlib.Core.List.{List, [], _∷_}
 use Prim.Native.Nat.{ℕ, zero, suc, _+_, _-_, _^_, _≤_, _<_}
+use lib.Dec.{eqb}
 use lib.ListN.{length, getD, set, take, drop}
 use Rattle.taxa.specs.Sets.{_∪_}
-use Rattle.grammar.specs.Bytes.{isLetter}
+use Rattle.grammar.specs.Bytes.{isLetter, byte, right, comma, semicolon}
 use Rattle.grammar.specs.Trees.{Trees}
 use Rattle.grammar.specs.Limits.{number}
 use Rattle.grammar.specs.Verdict.{accepted, refused}
@@ -126,6 +127,10 @@ pub record SignAt (text : List ℕ) (at sign next : ℕ) : Type 0 where
   pub inside : at < length text
   pub is : getD text at 0 ≡ sign
   pub after : at + 1 ≡ next
+
+-- Whether a byte is a sign that may stand behind a subtree.
+abbrev pub mayFollow : ℕ → Bool
+mayFollow b = eqb b (byte right) || eqb b (byte comma) || eqb b (byte semicolon)
 
 -- A name of the file, taxon i, from where the reader stands to a place.
 pub record NameTo (text : List ℕ) (k : Book) (r : Reading) (end i : ℕ) : Type 0 where
