@@ -4,32 +4,14 @@ use mathlib.Core.Bool.{Bool, true, false, _&&_, _||_, cond, true≢false}
 use mathlib.Core.List.{List, [], _∷_, _++_, append-assoc, append-nil, List·Memᴰ, List·Memᴰ·head, List·Memᴰ·tail, Memᴰ·append-left, Memᴰ·append-right}
 use Prim.Native.Nat.{suc, _<_}
 use native.Mathlib.Omega.{arith}
-use lib.Dec.{eqb}
 use lib.ListN.{length, getD}
-use borrow.Author.Tests.{eqb-true, eq-eqb}
 use Rattle.grammar.specs.Columns.{Bytes}
-use Rattle.grammar.specs.Limits.{equal, isIn, seen, number, Distinct, end, next}
+use Rattle.record.specs.Bytes.{equal}
+use Rattle.record.proofs.Equal.{equal-refl, equal-true}
+use Rattle.grammar.specs.Limits.{isIn, seen, number, Distinct, end, next}
 use Rattle.grammar.proofs.Lists.{distinct-both}
 
--- ---- equal names
-
-and-true : (a b : Bool) → a && b ≡ true → (a ≡ true) × (b ≡ true)
-and-true true b e = (refl, e)
-and-true false b e = absurd (true≢false (sym e))
-
-pub equal-refl : (n : Bytes) → equal n n ≡ true
-unfolding equal
-equal-refl [] = refl
-equal-refl (b ∷ n) = rw (eq-eqb b b refl) (equal-refl n)
-
-pub equal-true : (n m : Bytes) → equal n m ≡ true → n ≡ m
-unfolding equal
-equal-true [] [] e = refl
-equal-true [] (b ∷ m) e = absurd (true≢false (sym e))
-equal-true (a ∷ n) [] e = absurd (true≢false (sym e))
-equal-true (a ∷ n) (b ∷ m) e =
-    let (f, g) = and-true (eqb a b) (equal n m) e in
-    let i = eqb-true a b f in let j = equal-true n m g in cc
+-- ---- names that are listed
 
 or-right : (a b : Bool) → b ≡ true → a || b ≡ true
 or-right true b e = refl

@@ -7,7 +7,8 @@ use Prim.Native.String.{String}
 use Prim.Native.String as string
 use Rattle.grammar.specs.Bytes.{mark}
 use Rattle.grammar.specs.Columns.{Column}
-use Rattle.grammar.specs.Limits.{equal, isIn, seen}
+use Rattle.record.specs.Bytes.{equal}
+use Rattle.grammar.specs.Limits.{isIn, seen}
 use Rattle.grammar.specs.Reader.{ended, step, ending}
 use Rattle.grammar.specs.Verdict.{Verdict, accepted, refused, named, judge, verdict}
 use Rattle.grammar.specs.Clerk.{Tally, wrongs, keep, outcome}

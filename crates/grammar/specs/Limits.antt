@@ -1,19 +1,12 @@
 -- Taxa, and the limits of document 02: names of 1 to 32 bytes, none twice in a tree, at most 64 names and 256 columns, brackets nested at most 64.
 use mathlib.Core.Path.{_≡_}
-use mathlib.Core.Bool.{Bool, true, false, _&&_, _||_, cond}
+use mathlib.Core.Bool.{Bool, true, false, _||_, cond}
 use mathlib.Core.List.{List, [], _∷_, _++_, List·Memᴰ}
 use Prim.Native.Nat.{ℕ, suc, max, _≤_}
-use lib.Dec.{eqb}
 use lib.ListN.{length}
+use Rattle.record.specs.Bytes.{equal}
 use Rattle.grammar.specs.Trees.{Tree, Trees, leaf, inner, one, then}
 use Rattle.grammar.specs.Columns.{Bytes, names, allNames, allColumns}
-
--- Whether two names have the same bytes.
-unfoldable pub equal : Bytes → Bytes → Bool
-equal [] [] = true
-equal [] (b ∷ m) = false
-equal (a ∷ n) [] = false
-equal (a ∷ n) (b ∷ m) = eqb a b && equal n m
 
 -- Whether a name is one of a list.
 unfoldable pub isIn : Bytes → List Bytes → Bool

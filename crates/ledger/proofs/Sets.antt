@@ -11,9 +11,11 @@ use borrow.Author.Tests.{lt-ltb, le-ltb}
 use Rattle.taxa.specs.Sets.{_∈_, _∉_, _⊆_, _∪_, _∖_, within, all}
 use Rattle.taxa.proofs.Members.{none, in∪, in∖, ext, ∪-⊆, ⊆-refl, in-pow, pow-in, pow-⊆, in-all, within-⊆}
 use Rattle.grammar.specs.Columns.{Bytes}
-use Rattle.grammar.specs.Limits.{equal, isIn, seen, number, Distinct, end, next}
+use Rattle.record.specs.Bytes.{equal}
+use Rattle.grammar.specs.Limits.{isIn, seen, number, Distinct, end, next}
 use Rattle.grammar.proofs.Lists.{distinct-latter}
-use Rattle.grammar.proofs.Numbering.{equal-refl, equal-true, mem-isIn, isIn-mem, number-at, number-seen, apart}
+use Rattle.record.proofs.Equal.{equal-refl, equal-true}
+use Rattle.grammar.proofs.Numbering.{mem-isIn, isIn-mem, number-at, number-seen, apart}
 use Rattle.ledger.specs.Sets.{setOf}
 
 -- Every name of ns is among ms.

@@ -2,7 +2,8 @@
 use mathlib.Core.Path.{_≡_, refl}
 use mathlib.Core.List.{List, [], _∷_, _++_, map}
 use Prim.Native.Nat.{ℕ}
-use Rattle.grammar.specs.Limits.{equal, isIn}
+use Rattle.record.specs.Bytes.{equal}
+use Rattle.grammar.specs.Limits.{isIn}
 use Rattle.record.specs.Bytes.{numberAt}
 use Rattle.record.specs.Records.{step, allowed, varyingStep, finds, nothingAfter}
 use Rattle.names.specs.Names.{nameAt}

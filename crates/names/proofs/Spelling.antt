@@ -1,9 +1,8 @@
 -- The bytes of a name: what may stand in one (`letter-marked`, `marked-letter`) and so what is a name (`spelt-name`, `name-spelt`), byte by byte
--- (`spelt-next`); two names compared byte by byte (`equal-next`), where they are as long as each other (`other-length`).
+-- (`spelt-next`).
 use mathlib.Core.Path.{_≡_, refl, sym, ap, _∙_}
 use mathlib.Core.Bool.{Bool, true, false, _&&_, true≢false, and-eq-true-iff}
 use mathlib.Core.List.{[], _∷_}
-use mathlib.Core.Logic.{_≢_}
 use Prim.Native.Nat.{ℕ, suc, _+_, _≤_, _<_}
 use native.Mathlib.Numerals.{add-one}
 use native.Mathlib.Decide.{decLt}
@@ -15,8 +14,6 @@ use borrow.Author.Tests.{ne-eqb, le-leb, lt-leb}
 use Rattle.grammar.specs.Bytes.{Mark, mark, blank, letter, wrong, sign, byte, left, right, comma, semicolon, isBlank, isLetter}
 use Rattle.grammar.specs.Columns.{Bytes}
 use Rattle.grammar.specs.Text.{Name, only, more}
-use Rattle.grammar.specs.Limits.{equal}
-use Rattle.grammar.proofs.Numbering.{equal-true}
 use Rattle.record.proofs.Steps.{either-way}
 use Rattle.names.specs.Check.{spelt}
 
@@ -93,22 +90,3 @@ spelt-next n i h = rw (drop-cons n i 0 h, add-one i) (spelt-cons (getD n i 0) (d
 pub spelt-end : (n : Bytes) (i : ℕ) → length n ≤ i → spelt (drop i n) ≡ true
 unfolding spelt
 spelt-end n i h = rw (drop-of-length-le n {i = i} h)
-
-equal-cons : (a b : ℕ) (n m : Bytes) → equal (a ∷ n) (b ∷ m) ≡ eqb a b && equal n m
-unfolding equal
-equal-cons a b n m = refl
-
-pub equal-next : (n m : Bytes) (i : ℕ) → i < length n → i < length m
-    → equal (drop i n) (drop i m) ≡ eqb (getD n i 0) (getD m i 0) && equal (drop (i + 1) n) (drop (i + 1) m)
-equal-next n m i h k = rw (drop-cons n i 0 h, drop-cons m i 0 k, add-one i) (equal-cons (getD n i 0) (getD m i 0) (drop (suc i) n) (drop (suc i) m))
-
-pub equal-end : (n m : Bytes) (i : ℕ) → length n ≤ i → length m ≤ i → equal (drop i n) (drop i m) ≡ true
-unfolding equal
-equal-end n m i h k = rw (drop-of-length-le n {i = i} h, drop-of-length-le m {i = i} k)
-
-pub other-length : (n m : Bytes) → length n ≢ length m → equal n m ≡ false
-other-length n m d = go (equal n m) refl
-  where
-    go : (b : Bool) → equal n m ≡ b → b ≡ false
-    go true e = absurd (d (ap length (equal-true n m e)))
-    go false e = refl

@@ -9,7 +9,8 @@ use native.Mathlib.Numerals.{sub-one}
 use native.Mathlib.Omega.{arith}
 use lib.ListN.{length, take, drop}
 use Rattle.grammar.specs.Columns.{Bytes}
-use Rattle.grammar.specs.Limits.{equal, isIn}
+use Rattle.record.specs.Bytes.{equal}
+use Rattle.grammar.specs.Limits.{isIn}
 use Rattle.record.specs.Bytes.{numberAt}
 use Rattle.names.specs.Names.{nameAt}
 use Rattle.names.specs.inner.Places.{after, namesFrom, placeFrom}

@@ -11,7 +11,8 @@ use record::number::u16_at;
 ghost use mathlib.Core.Path.{_≡_};
 ghost use Prim.Native.Nat.{_<_};
 ghost use lib.ListN.{length};
-ghost use Rattle.grammar.specs.Limits.{equal, isIn};
+ghost use Rattle.record.specs.Bytes.{equal};
+ghost use Rattle.grammar.specs.Limits.{isIn};
 ghost use Rattle.names.specs.Names.{nameAt};
 ghost use Rattle.names.specs.Check as check;
 ghost use Rattle.names.specs.Check.{spelt, namesIn};
@@ -54,21 +55,6 @@ fn is_spelt(name: &[u8]) -> bool
     true
 }
 
-// Whether two names are the same: their lengths first.
-pub fn same(one: &[u8], other: &[u8]) -> bool
-    ensures { λ r. ⌜ r ≡ equal (now (one .entry)) (now (other .entry)) ⌝ }
-{
-    if one.len() != other.len() {
-        return false;
-    }
-    for i in 0..one.len() {
-        if one[i] != other[i] {
-            return false;
-        }
-    }
-    true
-}
-
 // Where the record after the one at a place starts.
 fn after(file: &[u8], at: usize) -> usize
     requires { ⌜ Whole (now file) at ⌝ }
@@ -84,7 +70,7 @@ fn same_name(file: &[u8], one: usize, other: usize) -> bool
 {
     let one_end = after(file, one);
     let other_end = after(file, other);
-    same(&file[one + 4..one_end], &file[other + 4..other_end])
+    record::same(&file[one + 4..one_end], &file[other + 4..other_end])
 }
 
 // Whether one of the first `count` names is the name of the record at a place: they are met again from the file's start, so that no memory is needed.

@@ -14,7 +14,8 @@ use Rattle.grammar.specs.Bytes.{byte, isBlank, isLetter, left, right, comma, se
 use Rattle.grammar.specs.Trees.{Trees, word, sign}
 use Rattle.grammar.specs.Verdict.{goes, accepted, refused}
 use Rattle.grammar.specs.Columns.{Bytes}
-use Rattle.grammar.specs.Limits.{equal, number}
+use Rattle.record.specs.Bytes.{equal}
+use Rattle.grammar.specs.Limits.{number}
 use Rattle.grammar.specs.inner.Shape.{beginning, ended}
 use Rattle.grammar.specs.inner.Standing.{Run, piece, Standing}
 use Rattle.grammar.proofs.Standing.{piece-length, skips, cannot-begin, cannot-follow, opens, open-refused, closes, closes-one, closes-none}

@@ -10,9 +10,10 @@ use native.Mathlib.Omega.{arith}
 use lib.ListN.{length, getD, set, take, drop, length-append, List·getD-append}
 use lib.Seq.{getD-at, getD-set-same, getD-set-other}
 use Rattle.grammar.specs.Columns.{Bytes}
-use Rattle.grammar.specs.Limits.{equal, number}
+use Rattle.record.specs.Bytes.{equal}
+use Rattle.grammar.specs.Limits.{number}
 use Rattle.grammar.specs.inner.Standing.{piece}
-use Rattle.grammar.proofs.Numbering.{equal-refl}
+use Rattle.record.proofs.Equal.{equal-refl}
 use Rattle.newick.specs.inner.Names.{namesIn, Placed}
 
 -- What holds of all numbers below i, and of i.

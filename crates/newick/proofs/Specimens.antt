@@ -7,7 +7,8 @@ use Rattle.taxa.specs.Sets.{_∪_, _∖_}
 use Rattle.record.specs.Bytes.{bytesOf}
 use Rattle.record.specs.Records.{openingOf, recordBytes}
 use Rattle.grammar.specs.Bytes.{mark}
-use Rattle.grammar.specs.Limits.{equal, isIn, seen, number}
+use Rattle.record.specs.Bytes.{equal}
+use Rattle.grammar.specs.Limits.{isIn, seen, number}
 use Rattle.grammar.specs.Reader.{ended, step, ending}
 use Rattle.grammar.specs.Verdict.{named, judge, verdict}
 use Rattle.grammar.specs.Clerk.{wrongs, keep, outcome}

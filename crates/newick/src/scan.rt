@@ -3,7 +3,8 @@ ghost use mathlib.Core.Path.{_≡_};
 ghost use Prim.Native.Nat.{_+_, _≤_, _<_};
 ghost use lib.ListN.{length, getD};
 ghost use Rattle.grammar.specs.Bytes.{isBlank, isLetter};
-ghost use Rattle.grammar.specs.Limits.{equal, number};
+ghost use Rattle.record.specs.Bytes.{equal};
+ghost use Rattle.grammar.specs.Limits.{number};
 ghost use Rattle.grammar.specs.inner.Standing.{Run, piece};
 ghost use Rattle.newick.specs.inner.Runs.{Lettered, Of};
 ghost use Rattle.newick.specs.inner.Names.{Placed, namesIn};
@@ -100,7 +101,7 @@ fn same_names(text: &[u8], a: usize, size: usize, b: usize, other: usize) -> boo
     requires { ⌜ (a + size ≤ length (now text)) × (b + other ≤ length (now text)) ⌝ }
     ensures { λ r. ⌜ r ≡ equal (piece (now (text .entry)) a size) (piece (now (text .entry)) b other) ⌝ }
 {
-    names::same(&text[a..a + size], &text[b..b + other])
+    record::same(&text[a..a + size], &text[b..b + other])
 }
 
 // The number of a name among the first n taxa, or n where it is none of theirs.

@@ -1,6 +1,8 @@
 -- Numbers in a file, little-endian, and what a writer leaves of the room it is lent (document 01, "Records").
+use mathlib.Core.Bool.{Bool, true, false, _&&_}
 use mathlib.Core.List.{List, [], _∷_, _++_}
 use Prim.Native.Nat.{ℕ, zero, suc, _+_, _*_, _/_, _%_, _<_}
+use lib.Dec.{eqb}
 use lib.ListN.{length, getD, take, drop}
 
 -- The number of k bytes that starts at a place of a file.
@@ -20,3 +22,10 @@ pub record File (file : List ℕ) : Type 0 where
 -- xs with r in the place of as many elements from a on.
 unfoldable pub over : List ℕ → ℕ → List ℕ → List ℕ
 over r a xs = take a xs ++ r ++ drop (a + length r) xs
+
+-- Whether two pieces of files have the same bytes.
+unfoldable pub equal : List ℕ → List ℕ → Bool
+equal [] [] = true
+equal [] (b ∷ m) = false
+equal (a ∷ n) [] = false
+equal (a ∷ n) (b ∷ m) = eqb a b && equal n m

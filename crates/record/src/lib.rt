@@ -7,6 +7,7 @@ pub mod writer;
 use number::u16_at;
 ghost use mathlib.Core.Path.{_≡_};
 ghost use Prim.Native.Nat.{_<_};
+ghost use Rattle.record.specs.Bytes.{equal};
 ghost use Rattle.record.specs.Records.{recordOf, multiplicityRecord, left, step, refusalOf, passedRefusal, nothingAfter};
 ghost use Rattle.record.specs.Records.{allowed, varied, varyingStep, finds};
 
@@ -247,4 +248,19 @@ impl Passed {
             },
         }
     }
+}
+
+// Whether two pieces of files are the same: their lengths first.
+pub fn same(one: &[u8], other: &[u8]) -> bool
+    ensures { λ r. ⌜ r ≡ equal (now (one .entry)) (now (other .entry)) ⌝ }
+{
+    if one.len() != other.len() {
+        return false;
+    }
+    for i in 0..one.len() {
+        if one[i] != other[i] {
+            return false;
+        }
+    }
+    true
 }

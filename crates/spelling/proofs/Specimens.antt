@@ -12,7 +12,8 @@ use Rattle.answer.specs.Content.{run, headBytes, groupBytes, endBytes, fileOf, 
 use Rattle.answer.specs.Rules.{counted, headFault, follows, placed, compatible, compatibleAll, groupFault}
 use Rattle.answer.specs.Tests.{judge, walk, headTest, groupTest, endTest, tests}
 use Rattle.answer.specs.Reading.{fileTests}
-use Rattle.grammar.specs.Limits.{equal, isIn}
+use Rattle.record.specs.Bytes.{equal}
+use Rattle.grammar.specs.Limits.{isIn}
 use Rattle.grammar.specs.Trees.{tokens, file}
 use Rattle.grammar.specs.Writer.{plain}
 use Rattle.grammar.proofs.Specimens.{text}

@@ -5,7 +5,7 @@ use mathlib.Core.List.{List, [], _∷_, _++_}
 use Prim.Native.Nat.{ℕ, zero, suc, _+_, _≤_, _<_}
 use lib.ListN.{length, getD}
 use Rattle.grammar.specs.Columns.{Bytes}
-use Rattle.grammar.specs.Limits.{equal}
+use Rattle.record.specs.Bytes.{equal}
 use Rattle.grammar.specs.inner.Standing.{piece}
 
 -- The first n names.

@@ -5,7 +5,7 @@ use mathlib.Core.Path.{_≡_, sym, _∙_}
 use mathlib.Core.Bool.{false}
 use Prim.Native.Nat.{_-_, _≤_}
 use lib.ListN.{getD}
-use Rattle.grammar.specs.Limits.{equal}
+use Rattle.record.specs.Bytes.{equal}
 use Rattle.grammar.specs.inner.Standing.{piece}
 use Rattle.newick.proofs.Names.{one-further, Others, found, not-found}
 use Rattle.newick.proofs.scan.number_of.Statement.{statement}

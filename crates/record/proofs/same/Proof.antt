@@ -1,14 +1,14 @@
--- `names::same` meets its contract. The invariant: what is left to compare comes to what all comes to.
+-- `record::same` meets its contract. The invariant: what is left to compare comes to what all comes to.
 use borrow.Author.Needs.{needs}
 use borrow.Author.Tests.{eq-eqb, ne-eqb}
 use mathlib.Core.Path.{_≡_, sym}
 use native.Mathlib.Omega.{arith}
 use Prim.Native.Nat.{_-_, _≤_}
 use lib.ListN.{length, drop}
-use Rattle.grammar.specs.Limits.{equal}
-use Rattle.names.proofs.Spelling.{equal-next, equal-end, other-length}
-use Rattle.names.proofs.same.Statement.{statement}
-use Rattle.names.proofs.same.Tie as tie
+use Rattle.record.specs.Bytes.{equal}
+use Rattle.record.proofs.Equal.{equal-next, equal-end, other-size}
+use Rattle.record.proofs.same.Statement.{statement}
+use Rattle.record.proofs.same.Tie as tie
 
 abbrev Inv-loop : tie.InvT-loop
 Inv-loop one other i₀ i-end i = (i ≤ length one) × (equal one other ≡ equal (drop i one) (drop i other))
@@ -17,7 +17,7 @@ abbrev μ-loop : tie.MeasureT-loop
 μ-loop one other i₀ i-end i = length one - i
 
 returns : tie.Need-returns Inv-loop μ-loop
-returns c = sym (other-length _ _ (omega arith))
+returns c = sym (other-size _ _ (omega arith))
 
 loop-holds : tie.Need-loop-holds Inv-loop μ-loop
 loop-holds c = search needs
