@@ -1,25 +1,23 @@
--- The build of a file that nothing refuses: what its steps ask for (`lent-ready`, `lent-room`, `to-write`), that what they come to is the content of the
--- method's answer (`built-content`), and that writing it is not refused (`written-all`). Then the rows of
--- the operation's table.
+-- The tree of a file that is taken: what the steps of its growing ask for (`lent-ready`, `lent-room`, `to-order`), and that what they come to is the tree of
+-- the method's answer, with its flips (`has-grown`). Then that writing it, or all, is not refused (`tree-written`, `whole-written`, `answers-all`).
 use mathlib.Core.Path.{_≡_, refl, sym, ap, _∙_, subst}
 use mathlib.Core.List.{List, _++_}
 use Prim.Native.Nat.{ℕ, zero, suc, _≤_, _<_}
 use native.Mathlib.Omega.{arith}
 use lib.IntN.{ℤ}
-use lib.ListN.{length, take, drop, length-append, length-drop}
+use lib.ListN.{length, take}
 use lib.Seq.{take-at, getD-take}
-use borrow.Author.Tests.{lt-ltb, le-ltb}
+use borrow.Author.Tests.{le-ltb}
 use Rattle.taxa.specs.Sets.{Positive, multiplicity, multiplicityIn, Tabled, all}
 use Rattle.taxa.proofs.Members.{all-<, all-fits}
 use Rattle.taxa.proofs.Counts.{count-all}
 use Rattle.record.specs.Bytes.{File, over}
-use Rattle.record.specs.Records.{refused}
-use Rattle.record.specs.declared.Refusal.{Refusal}
 use Rattle.matrix.specs.Check.{checked}
-use Rattle.matrix.specs.declared.Checked.{Checked}
 use Rattle.matrix.specs.declared.Checked.the-variants as checks
+use Rattle.answer.specs.declared.Answer.{Answer}
 use Rattle.answer.specs.declared.Written.the-variants as written
 use Rattle.answer.specs.Content.{Content, fileOf, lengthOf}
+use Rattle.answer.specs.Lawful.{Lawful}
 use Rattle.answer.specs.Tests.{judge}
 use Rattle.answer.specs.Writing.{writeTests, writing}
 use Rattle.answer.proofs.Meaning.{lawful-passes}
@@ -35,12 +33,12 @@ use Rattle.split.specs.inner.Handing.{Parallel}
 use Rattle.split.specs.Columns.{matrixIn}
 use Rattle.split.proofs.Soundness.{taken-count, taken-known, few-taxa, few-columns, can-load, taken-sound}
 use Rattle.tree.specs.declared.Built.{Built}
-use Rattle.tree.specs.declared.Built.the-variants.{Refused}
 use Rattle.tree.specs.Lists.{firstGroups}
 use Rattle.tree.specs.inner.Lists.{Room, unweighed}
-use Rattle.tree.specs.inner.Grow.{entriesFor, LentLists, arcsIn, Ready, Grown, walkFrom, Walked, Answers, Buildable}
-use Rattle.tree.specs.Build.{contentWith, contentFor, roomFor, takenOf, answered, built, outputAfter, workspaceAfter, returned, buildNumbers}
-use Rattle.tree.proofs.Rules.{answer-lawful, answer-fits, flips-few}
+use Rattle.tree.specs.inner.Grow.{entriesFor, InFront, LentLists, arcsIn, Ready, Grown, walkFrom, Walked, treeOf, Growable, Grew, Answers}
+use Rattle.tree.specs.Build as specs
+use Rattle.tree.specs.Build.{treeWith, withFlips, treeFor, contentFor, treeRoom, roomFor}
+use Rattle.tree.proofs.Rules.{answer-lawful, answer-fits, flips-few, answer-of-tree, tree-lawful, tree-fits}
 
 -- The flip list asks for no weight, and for no column past the last.
 same-flips : (m : ℕ) (old new new′ : ℕ → Column) → ((c : ℕ) → c < m → (new c .ones ≡ new′ c .ones) × (new c .zeros ≡ new′ c .zeros)) → flipList m old new ≡ flipList m old new′
@@ -50,14 +48,15 @@ same-flips (suc m) old new new′ same =
     let (ones, zeros) = same m (omega arith) in
     rw (same-flips m old new new′ (λ c l. same c (omega arith)), ones, zeros)
 
--- A list of which the first k entries were lent and came back.
-pub front-fits : (new rest : List ℕ) {k : ℕ} → length new ≡ k → k ≤ length (new ++ rest)
-front-fits new rest e = omega (arith, length-append new rest)
+-- Columns that were loaded into the first entries of three lists stand in front there.
+pub in-front : (m : ℕ) (cols : ℕ → Column) (ws os zs w o z : List ℕ) → colsOf ws os zs ≡ cols → Parallel ws os zs → length ws ≡ m → InFront m cols (ws ++ w) (os ++ o) (zs ++ z)
+in-front m cols ws os zs w o z is p sized =
+    let first = take-at ws w m sized in
+    let second = take-at os o m (p .ones ∙ sized) in
+    let third = take-at zs z m (p .zeros ∙ sized) in
+    record { columns = rw (first, second, third) is; parallel = rw (first, second, third) p; sized = rw first sized }
 
-pub still-long : (new old : List ℕ) {k : ℕ} → length new ≡ k → k ≤ length old → length (new ++ drop k old) ≡ length old
-still-long new old {k} e l = omega (arith, length-append new (drop k old), length-drop k old)
-
-module _ {file : List ℕ} {n m space room : ℕ} (f : File file) (b : Buildable file n m space room) where
+module _ {file : List ℕ} {n m space : ℕ} (f : File file) (b : Growable file n m space) where
   abbrev M : Matrix
   M = matrixIn file
 
@@ -101,32 +100,19 @@ module _ {file : List ℕ} {n m space room : ℕ} (f : File file) (b : Buildable
   grow-room : (ws P os zs : List ℕ) {ts cs : List ℕ} → length ws ≡ m → length ts ≡ 63 → length cs ≡ 63 → Room (length (walkFrom ws P os zs (all n) .groups)) ts cs
   grow-room ws P os zs e t c = rw e (let few = few-groups (multiplicityIn P) (colsOf ws os zs) in record { taxa-room = omega arith; costs-room = omega arith })
 
-  -- The columns stand in front of other entries.
-  module _ (ws P os zs w o z : List ℕ) (p : Parallel ws os zs) (sized : length ws ≡ m) where
+  module _ (ws P os zs : List ℕ) (p : InFront m file-columns ws os zs) where
     abbrev lent : List ℕ
-    lent = take m (ws ++ w)
+    lent = take m ws
 
-    lent-is : lent ≡ ws
-    lent-is = take-at ws w m sized
+    pub lent-columns : colsOf lent (entriesFor lent os) (entriesFor lent zs) ≡ file-columns
+    lent-columns = rw (p .sized) (p .columns)
 
-    ones-are : entriesFor lent (os ++ o) ≡ os
-    ones-are = rw lent-is (take-at os o (length ws) (p .ones))
+    pub lent-ready : multiplicityIn P ≡ file-multiplicities → Tabled P → {needed : ℕ} {clear : List ℤ} (before : List ℤ)
+        → needed ≡ oneEntries M → clear ≡ cleared needed before → length before ≡ space → Ready lent P (entriesFor lent os) (entriesFor lent zs) (all n) n clear
+    lent-ready u t before k c l = rw (p .sized) (grow-ready before (p .parallel) (p .columns) u t (p .sized) k c l)
 
-    zeros-are : entriesFor lent (zs ++ z) ≡ zs
-    zeros-are = rw lent-is (take-at zs z (length ws) (p .zeros))
-
-    lent-sized : length lent ≡ m
-    lent-sized = rw lent-is sized
-
-    pub lent-columns : colsOf ws os zs ≡ file-columns → colsOf lent (entriesFor lent (os ++ o)) (entriesFor lent (zs ++ z)) ≡ file-columns
-    lent-columns e = rw (ones-are, zeros-are, lent-is) e
-
-    pub lent-ready : colsOf ws os zs ≡ file-columns → multiplicityIn P ≡ file-multiplicities → Tabled P → {needed : ℕ} {clear : List ℤ} (before : List ℤ)
-        → needed ≡ oneEntries M → clear ≡ cleared needed before → length before ≡ space → Ready lent P (entriesFor lent (os ++ o)) (entriesFor lent (zs ++ z)) (all n) n clear
-    lent-ready is u t before k c l = rw (ones-are, zeros-are, lent-is) (grow-ready before p is u t sized k c l)
-
-    pub lent-room : {ts cs : List ℕ} → length ts ≡ 63 → length cs ≡ 63 → Room (length (walkFrom lent P (entriesFor lent (os ++ o)) (entriesFor lent (zs ++ z)) (all n) .groups)) ts cs
-    lent-room t c = grow-room lent P _ _ lent-sized t c
+    pub lent-room : {ts cs : List ℕ} → length ts ≡ 63 → length cs ≡ 63 → Room (length (walkFrom lent P (entriesFor lent os) (entriesFor lent zs) (all n) .groups)) ts cs
+    lent-room t c = grow-room lent P _ _ (p .sized) t c
 
   -- ---- what it comes to
 
@@ -147,76 +133,68 @@ module _ {file : List ℕ} {n m space room : ℕ} (f : File file) (b : Buildable
         (λ c l. (sym (getD-take (length ws) os′ c 0 (omega arith)), sym (getD-take (length ws) zs′ c 0 (omega arith))))
         ∙ rw (g .columns, same, start, sized, taken-count f (b .taken), taken-known f (b .taken))
 
-    pub built-content : contentWith n m (ordered 64 n (firstGroups ts′ cs′ k)) (flipList m file-columns (unweighed os′ zs′)) ≡ contentFor M
-    unfolding contentFor
-    built-content = rw (groups-are, flips-are, taken-count f (b .taken), taken-known f (b .taken))
+    pub tree-is : treeWith n m (ordered 64 n (firstGroups ts′ cs′ k)) ≡ treeFor M
+    unfolding treeFor
+    tree-is = rw (groups-are, taken-count f (b .taken), taken-known f (b .taken))
 
-    pub to-write : LentLists os′ zs′ ts′ cs′ → Walked file os′ zs′ n m ts′ cs′ k
+    pub to-order : LentLists os′ zs′ ts′ cs′ → Walked n ts′ cs′ k
     unfolding answer
-    to-write h =
+    to-order h =
         let few = rw (same, start, sized) at (g .many) in
         record {
-          columns = sym (taken-count f (b .taken));
-          few-columns = few-columns f (b .taken);
-          whole = can-load f (b .taken) refl .1;
-          ones = h .ones;
-          zeros = h .zeros;
           listed = let l = few-groups file-multiplicities file-columns in record { taxa-room = omega (arith, h .walked); costs-room = omega (arith, h .paid) };
           few = rw groups-are (omega (arith, promises.groups-few M ok, few-taxa f (b .taken), taken-known f (b .taken)));
           small = rw groups-are (omega (arith, promises.total-small M ok));
         }
 
+    -- So the tree has grown.
+    pub has-grown : {a : Answer} → LentLists os′ zs′ ts′ cs′ → (treeOf a ≡ treeWith n m (ordered 64 n (firstGroups ts′ cs′ k))) × (a .flips ≡ 0) → Grew file a os′ zs′
+    has-grown {a} h (e, none) =
+        let many : a .m ≡ m = ap (λ (c : Content). c .m) e in
+        record {
+          tree = e ∙ tree-is;
+          none = none;
+          flips = rw many flips-are;
+          flipped = record {
+            columns = many ∙ sym (taken-count f (b .taken));
+            few-columns = omega (arith, few-columns f (b .taken));
+            whole = rw many (can-load f (b .taken) refl .1);
+            ones = h .ones;
+            zeros = h .zeros;
+          };
+        }
+
   -- ---- writing it
 
-  pub written-all : (listed : ℕ) → m ≤ listed → writing (contentFor M) listed room ≡ written.Length (lengthOf (contentFor M))
+  -- A lawful content is written where there is room.
+  writes-all : {c : Content} → Lawful c → (listed room : ℕ) → c .flips ≤ listed → lengthOf c ≤ room → writing c listed room ≡ written.Length (lengthOf c)
   unfolding writing writeTests judge
-  written-all listed l =
-      rw (← lawful-passes (answer-lawful M ok) listed (omega (arith, flips-few M ok, taken-count f (b .taken))), le-ltb room (lengthOf (contentFor M)) (omega (arith, answer-fits M ok, b .fits, taken-count f (b .taken), taken-known f (b .taken))))
+  writes-all {c} h listed room l k = rw (← lawful-passes h listed l, le-ltb room (lengthOf c) k)
 
-  -- So the build answers as it should, and the output holds the file.
-  pub answers-all : {c : Content} {out out′ : List ℕ} {r : Built} → c ≡ contentFor M → length out ≡ room → Answers c out r out′ → (r ≡ takenOf file) × (out′ ≡ over (fileOf (contentFor M)) 0 out)
-  answers-all e l a =
-      let w = written-all 256 (few-columns f (b .taken)) in
-      (rw (e, l, w) at (a .answers), rw (e, l, w) at (a .output))
+  pub tree-written : (room : ℕ) → treeRoom n ≤ room → writing (treeFor M) 0 room ≡ written.Length (lengthOf (treeFor M))
+  unfolding treeFor
+  tree-written room fits = writes-all (tree-lawful M ok) 0 room (omega arith) (omega (arith, tree-fits M ok, taken-known f (b .taken)))
 
--- ---- the rows of the operation's table
+  -- What has grown fits the room for any tree.
+  pub fits-any : {a : Answer} {os zs : List ℕ} → Grew file a os zs → (writing (treeOf a) 0 (treeRoom 64) ≡ written.Length (lengthOf (treeOf a))) × (lengthOf (treeOf a) ≤ treeRoom 64)
+  fits-any g =
+      let few = few-taxa f (b .taken) in
+      subst (λ (c : Content). (writing c 0 (treeRoom 64) ≡ written.Length (lengthOf c)) × (lengthOf c ≤ treeRoom 64)) (sym (g .tree))
+      (tree-written (treeRoom 64) (omega arith), omega (arith, tree-fits M ok, taken-known f (b .taken)))
+
+  pub whole-written : (room : ℕ) → roomFor n m ≤ room → writing (contentFor M) 256 room ≡ written.Length (lengthOf (contentFor M))
+  whole-written room fits =
+      writes-all (answer-lawful M ok) 256 room (omega (arith, flips-few M ok, taken-count f (b .taken), few-columns f (b .taken)))
+      (omega (arith, answer-fits M ok, taken-count f (b .taken), taken-known f (b .taken)))
+
+-- What has grown, with its flips, is the method's answer.
+pub whole-is : {file os zs : List ℕ} {a : Answer} → Grew file a os zs → withFlips (treeOf a) (flipList (a .m) (column (matrixIn file .columns)) (unweighed os zs)) ≡ contentFor (matrixIn file)
+whole-is {file} g = (λ i. withFlips (g .tree i) (g .flips i)) ∙ sym (answer-of-tree (matrixIn file))
+
+-- What is written so is answered, and the output holds it.
+pub answers-all : {c c′ : Content} {entries : ℕ} {out out′ : List ℕ} {r : Built} → Answers c′ entries out r out′ → c′ ≡ c → writing c entries (length out) ≡ written.Length (lengthOf c)
+    → (r ≡ specs.written c) × (out′ ≡ over (fileOf c) 0 out)
+answers-all a e w = (rw (e, w) at (a .answers), rw (e, w) at (a .output))
 
 pub some-taxa : {file : List ℕ} {n m : ℕ} → File file → checks.Taken n m ≡ checked file → 0 < n
 some-taxa f taken = omega (arith, taken-sound f taken .some, taken-known f taken)
-
-module _ (file : List ℕ) (n m space room : ℕ) where
-  pub no-space : space < oneEntries (matrixIn file) → Refused (refused 9 0) ≡ answered (checks.Taken n m) file space room
-  unfolding answered
-  no-space l = rw (lt-ltb _ _ l)
-
-  pub no-output : oneEntries (matrixIn file) ≤ space → room < roomFor n m → Refused (refused 10 0) ≡ answered (checks.Taken n m) file space room
-  unfolding answered
-  no-output l k = rw (le-ltb _ _ l, lt-ltb _ _ k)
-
-  all-tested : Buildable file n m space room → takenOf file ≡ answered (checks.Taken n m) file space room
-  unfolding answered
-  all-tested b = rw (le-ltb _ _ (b .places), le-ltb _ _ (b .fits))
-
-  -- A build that nothing refuses.
-  pub taken-row : (out : List ℕ) (ws : List ℤ) {r : Built} {out′ : List ℕ} {ws′ : List ℤ} → Buildable file n m space room → r ≡ takenOf file → out′ ≡ over (fileOf (contentFor (matrixIn file))) 0 out
-      → ws′ ≡ cleared (oneEntries (matrixIn file)) ws → (r ≡ answered (checks.Taken n m) file space room) × (out′ ≡ outputAfter file r out) × (ws′ ≡ workspaceAfter file r ws)
-  unfolding outputAfter workspaceAfter
-  taken-row out ws b is output clear = (is ∙ all-tested b, rw is output, rw is clear)
-
--- A refusal changes no lent memory.
-pub output-left : (file : List ℕ) (why : Refusal) (out : List ℕ) → out ≡ outputAfter file (Refused why) out
-unfolding outputAfter
-output-left file why out = refl
-
-pub workspace-left : (file : List ℕ) (why : Refusal) (ws : List ℤ) → ws ≡ workspaceAfter file (Refused why) ws
-unfolding workspaceAfter
-workspace-left file why ws = refl
-
--- What the check says decides.
-pub outcome : (file : List ℕ) (space room : ℕ) {k : Checked} {r : Built} → k ≡ checked file → r ≡ answered k file space room → (r ≡ built file space room) × (returned r ≡ buildNumbers file space room)
-unfolding built
-outcome file space room e is = let same = rw e at is in (same, ap returned same)
-
-pub refused-row : (file : List ℕ) (space room : ℕ) (why : Refusal) → Refused why ≡ answered (checks.Refused why) file space room
-unfolding answered
-refused-row file space room why = refl

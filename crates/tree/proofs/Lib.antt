@@ -5,4 +5,6 @@ pub mod Opening
 pub mod Rules
 pub mod Writing
 pub mod Building
+pub mod Rows
+pub mod FlipsRows
 pub mod Places

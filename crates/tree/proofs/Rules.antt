@@ -12,7 +12,7 @@ use Rattle.method.specs.Tree.{Group, Flips, Line, end, and, Matrix, Sound, answ
 use Rattle.method.proofs.Promises as promises
 use Rattle.answer.specs.Content.{Content, lengthOf}
 use Rattle.answer.specs.Lawful.{LawfulHead, LawfulGroups, LawfulFlips, Lawful}
-use Rattle.tree.specs.Build.{contentWith, contentFor, roomFor}
+use Rattle.tree.specs.Build.{contentWith, withFlips, treeFor, contentFor, treeRoom, roomFor}
 use Rattle.tree.proofs.Lists.{list-few}
 
 -- ---- elements by their number
@@ -155,3 +155,57 @@ module _ (M : Matrix) (ok : Sound M) where
         flips-lawful = flips-lawful;
         total-is-sum = total-sum gs;
       }
+
+-- Without its flips a lawful answer is lawful.
+tree-lawful-of : {c : Content} → Lawful c → Lawful (withFlips c [])
+tree-lawful-of h =
+    let head = h .head-lawful in
+    let groups = h .groups-lawful in
+    record {
+      sized = record {
+        taxa-sized = h .sized .taxa-sized;
+        costs-sized = h .sized .costs-sized;
+        columns-sized = refl;
+        raised-sized = refl;
+        lowered-sized = refl;
+        total-fits = h .sized .total-fits;
+      };
+      head-lawful = record {
+        some-taxa = head .some-taxa;
+        few-taxa = head .few-taxa;
+        few-columns = head .few-columns;
+        none-for-one = head .none-for-one;
+        some-groups = head .some-groups;
+        few-groups = head .few-groups;
+        few-flips = omega arith;
+      };
+      groups-lawful = record {
+        two-or-more = groups .two-or-more;
+        known = groups .known;
+        in-order = groups .in-order;
+        nested-or-disjoint = groups .nested-or-disjoint;
+        first-is-all = groups .first-is-all;
+      };
+      flips-lawful = record {
+        rising = λ i j l b. absurd (omega arith);
+        column-known = λ j b. absurd (omega arith);
+        not-both-empty = λ j b e. omega arith;
+        apart = λ j b. absurd (omega arith);
+        raised-known = λ j b. absurd (omega arith);
+        lowered-known = λ j b. absurd (omega arith);
+      };
+      total-is-sum = h .total-is-sum;
+    }
+
+-- The tree is the answer without its flips, and the answer is the tree with them.
+pub answer-of-tree : (M : Matrix) → contentFor M ≡ withFlips (treeFor M) (answer M .flips)
+unfolding contentFor treeFor
+answer-of-tree M = refl
+
+pub tree-lawful : (M : Matrix) → Sound M → Lawful (treeFor M)
+unfolding contentFor treeFor
+tree-lawful M ok = tree-lawful-of (answer-lawful M ok)
+
+pub tree-fits : (M : Matrix) → Sound M → lengthOf (treeFor M) ≤ treeRoom (M .taxa)
+unfolding treeFor
+tree-fits M ok = omega (arith, promises.groups-few M ok)

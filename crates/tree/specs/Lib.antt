@@ -1,4 +1,6 @@
--- The build, as a function of the file and the lengths of the lent buffers.
+-- The build and its two halves, as functions of the files and the lengths of the lent buffers.
 pub mod Lists
 pub mod Build
+pub mod Tree
+pub mod Flips
 pub mod inner

@@ -1,7 +1,7 @@
 -- `tree::build` meets its contract: the file's refusal, or the answer for a matrix that is taken.
 use borrow.Author.Needs.{needs}
 use mathlib.Core.Path.{sym, _∙_}
-use Rattle.tree.proofs.Building.{outcome, refused-row, output-left, workspace-left}
+use Rattle.tree.proofs.Rows.{outcome, refused-row, output-left, workspace-left}
 use Rattle.tree.proofs.build.Statement.{statement}
 use Rattle.tree.proofs.build.Tie as tie
 
@@ -11,8 +11,8 @@ check-requires c κs = search needs
 enum-known-answer : tie.Need-enum-known-answer
 enum-known-answer c = search needs
 
-build-matrix-requires : tie.Need-build-matrix-requires
-build-matrix-requires c κs = sym (c .before .before .before .answer .given .1) ∙ c .before .before .before .before .before .check .ensures .answers
+build-taken-requires : tie.Need-build-taken-requires
+build-taken-requires c κs = sym (c .before .before .before .answer .given .1) ∙ c .before .before .before .before .before .check .ensures .answers
 
 enum-known-answer-2 : tie.Need-enum-known-answer-2
 enum-known-answer-2 c = search needs
@@ -25,7 +25,7 @@ same-length-2 c = search needs
 
 returns : tie.Need-returns
 returns c =
-    let made = c .before .before .before .build-matrix .ensures in
+    let made = c .before .before .before .build-taken .ensures in
     let told = c .before .before .before .before .before .before .before in
     let whole = outcome _ _ _ (sym (told .answer .given .1) ∙ told .before .before .check .ensures .answers) (made .0) in
     record { answers = whole .0; numbers = whole .1; output = made .1; workspace = made .2 }
@@ -42,7 +42,7 @@ build-spec =
     (tie.spec
     check-requires
     enum-known-answer
-    build-matrix-requires
+    build-taken-requires
     enum-known-answer-2
     same-length
     same-length-2

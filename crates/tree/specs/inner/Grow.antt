@@ -1,7 +1,9 @@
 -- What the functions of the walk hand to each other.
 use mathlib.Core.Path.{_≡_}
-use mathlib.Core.List.{List, _++_}
+use mathlib.Core.Bool.{cond}
+use mathlib.Core.List.{List, [], _++_}
 use Prim.Native.Nat.{ℕ, _+_, _*_, _^_, _≤_, _<_}
+use lib.Dec.{ltb}
 use lib.IntN.{ℤ}
 use lib.ListN.{length, getD, take}
 use Rattle.taxa.specs.Sets.{Positive, multiplicityIn, Tabled, count}
@@ -10,10 +12,11 @@ use Rattle.matrix.specs.Matrix.{columnsAt}
 use Rattle.matrix.specs.Check.{checked}
 use Rattle.method.specs.Split.{Column}
 use Rattle.method.specs.Flow.{arcCount}
-use Rattle.method.specs.Tree.{Group, Walk, build, Turn, walked, ordered, total, oneEntries}
+use Rattle.method.specs.Tree.{Group, Walk, build, Turn, walked, ordered, total, oneEntries, column, flipList, answer}
+use Rattle.answer.specs.declared.Answer.{Answer}
 use Rattle.answer.specs.declared.Written.{Written}
 use Rattle.answer.specs.declared.Written.the-variants as written
-use Rattle.answer.specs.Content.{Content, fileOf}
+use Rattle.answer.specs.Content.{Content, contentOf, fileOf}
 use Rattle.answer.specs.Writing.{writing, put}
 use Rattle.search.specs.inner.Places.{Clear}
 use Rattle.search.specs.Search.{colsOf}
@@ -22,14 +25,13 @@ use Rattle.split.specs.Columns.{matrixIn}
 use Rattle.tree.specs.declared.Built.{Built}
 use Rattle.tree.specs.declared.Built.the-variants.{Taken, Refused}
 use Rattle.tree.specs.Lists.{firstGroups}
-use Rattle.tree.specs.Build.{roomFor}
-use Rattle.tree.specs.inner.Lists.{Room}
+use Rattle.tree.specs.Build.{treeFor}
+use Rattle.tree.specs.inner.Lists.{Room, unweighed}
 
--- What has been tested where nothing is refused.
-pub record Buildable (file : List ℕ) (n m space room : ℕ) : Type 0 where
+-- What has been tested where a tree grows.
+pub record Growable (file : List ℕ) (n m space : ℕ) : Type 0 where
   pub taken : checks.Taken n m ≡ checked file
   pub places : oneEntries (matrixIn file) ≤ space
-  pub fits : roomFor n m ≤ room
 
 -- At most 256 columns of at most 64 taxa in three lists, and multiplicities of which none is 0, with their table.
 pub record Loaded (ws P os zs : List ℕ) (n : ℕ) : Type 0 where
@@ -56,6 +58,12 @@ pub record TurnsClear (ws P os zs Ps : List ℕ) (space : List ℤ) : Type 0 whe
 -- As many entries of a list as there are weights: those that stand for columns.
 abbrev pub entriesFor : List ℕ → List ℕ → List ℕ
 entriesFor ws xs = take (length ws) xs
+
+-- m columns stand in front in three lists.
+pub record InFront (m : ℕ) (cols : ℕ → Column) (ws os zs : List ℕ) : Type 0 where
+  pub columns : colsOf (take m ws) (take m os) (take m zs) ≡ cols
+  pub parallel : Parallel (take m ws) (take m os) (take m zs)
+  pub sized : length (take m ws) ≡ m
 
 -- The lists of columns and of groups that are lent while the tree grows.
 pub record LentLists (os zs taxa costs : List ℕ) : Type 0 where
@@ -86,24 +94,41 @@ pub record AllSmall (Ps : List ℕ) (n bound room : ℕ) : Type 0 where
   pub small : (i : ℕ) → i < length Ps → count 64 (getD Ps i 0) < bound
   pub fits : (i : ℕ) → i < length Ps → 2 * count 64 (getD Ps i 0) ≤ room
 
--- What there is to write: a file's m columns and what became of them, and k groups as walked, whose list in file order fits 63 places and whose total
--- fits 4 bytes.
-pub record Walked (file os zs : List ℕ) (n m : ℕ) (walked paid : List ℕ) (k : ℕ) : Type 0 where
+-- k groups as walked, whose list in file order fits 63 places and whose total fits 4 bytes.
+pub record Walked (n : ℕ) (walked paid : List ℕ) (k : ℕ) : Type 0 where
+  pub listed : Room k walked paid
+  pub few : length (ordered 64 n (firstGroups walked paid k)) ≤ 63
+  pub small : total (ordered 64 n (firstGroups walked paid k)) < 2 ^ 32
+
+-- A file's m columns, and as many entries as there can be of what became of them.
+pub record Flipped (file os zs : List ℕ) (m : ℕ) : Type 0 where
   pub columns : m ≡ length (matrixIn file .columns)
   pub few-columns : m ≤ 256
   pub whole : columnsAt file + 22 * m ≤ length file
   pub ones : length os ≡ 256
   pub zeros : length zs ≡ 256
-  pub listed : Room k walked paid
-  pub few : length (ordered 64 n (firstGroups walked paid k)) ≤ 63
-  pub small : total (ordered 64 n (firstGroups walked paid k)) < 2 ^ 32
 
--- What writing a content answers, as the build's answer.
-abbrev pub writtenAs : Content → Written → Built
-writtenAs c (written.Length size) = Taken size (c .total)
-writtenAs c (written.Refused why) = Refused why
+-- The tree that an answer's value holds, whatever flips it counts.
+abbrev pub treeOf : Answer → Content
+treeOf a = contentOf (record { n = a .n; m = a .m; groups = a .groups; flips = 0; total = a .total; taxa = a .taxa; costs = a .costs }) [] [] []
 
--- A content was handed to the writing of answers, with room for 256 flips.
-pub record Answers (c : Content) (out : List ℕ) (r : Built) (out′ : List ℕ) : Type 0 where
-  pub answers : r ≡ writtenAs c (writing c 256 (length out))
-  pub output : out′ ≡ put (writing c 256 (length out)) (fileOf c) out
+-- A file's tree has grown: a value holds its groups and costs and no flips, and the flips are those that the columns show.
+pub record Grew (file : List ℕ) (a : Answer) (os zs : List ℕ) : Type 0 where
+  pub tree : treeOf a ≡ treeFor (matrixIn file)
+  pub none : a .flips ≡ 0
+  pub flips : flipList (a .m) (column (matrixIn file .columns)) (unweighed os zs) ≡ answer (matrixIn file) .flips
+  pub flipped : Flipped file os zs (a .m)
+
+-- What writing answers, with the total, as the build's answer.
+abbrev pub writtenAs : ℕ → Written → Built
+writtenAs total (written.Length size) = Taken size total
+writtenAs total (written.Refused why) = Refused why
+
+-- A content was handed to the writing of answers, with room for so many flips.
+pub record Answers (c : Content) (entries : ℕ) (out : List ℕ) (r : Built) (out′ : List ℕ) : Type 0 where
+  pub answers : r ≡ writtenAs (c .total) (writing c entries (length out))
+  pub output : out′ ≡ put (writing c entries (length out)) (fileOf c) out
+
+-- What is lent and too short: 9 for the workspace, 10 for the output, 0 where both are long enough.
+unfoldable pub lacking : ℕ → ℕ → ℕ → ℕ → ℕ
+lacking space needed room wanted = cond (ltb space needed) 9 (cond (ltb room wanted) 10 0)

@@ -1,11 +1,11 @@
--- `tree::grow_all` meets its contract: the walk from all taxa, with lists of its own for the search and the parts.
+-- `tree::groups::grow_all` meets its contract: the walk from all taxa, with lists of its own for the search and the parts.
 use borrow.Author.Needs.{needs}
 use native.Mathlib.Omega.{arith}
 use mathlib.Core.Path.{refl}
 use Rattle.taxa.specs.Sets.{all}
 use Rattle.taxa.proofs.Counts.{count-le}
-use Rattle.tree.proofs.grow_all.Statement.{statement}
-use Rattle.tree.proofs.grow_all.Tie as tie
+use Rattle.tree.proofs.groups.grow_all.Statement.{statement}
+use Rattle.tree.proofs.groups.grow_all.Tie as tie
 
 abbrev begun : tie.After-all → tie.Start
 begun c = c .before .before .before .before .before
