@@ -7,4 +7,5 @@ pub mod Writing
 pub mod Building
 pub mod Rows
 pub mod FlipsRows
+pub mod Halves
 pub mod Places
