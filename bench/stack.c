@@ -1,6 +1,7 @@
 // The most stack that the operations use over the matrices of cases.h, the heavy ones with multiplicities too, a split's group being all taxa, and over
 // source trees as deep as may be, of as many names and as long ones as may be.
-// Build and split are measured in a library where both call the search's `divide`, and in one that has no other operation: there the compiler puts it into its only caller.
+// Build and split are measured in a library where both call the search's `divide`, and in one that has no other operation: there the compiler puts it into its only caller. Tree and flips
+// are measured in the first.
 // Ends with 1 where one uses more than document 02's C-16 allows a build and a split, or include/flipcut.h any other.
 //   stack FOLDER   also writes the matrices there, as files
 #define _GNU_SOURCE
@@ -11,6 +12,8 @@
 // bytes
 enum {
     MOST_FOR_BUILD = 40960,
+    MOST_FOR_TREE = 40960,
+    MOST_FOR_FLIPS = 40960,
     MOST_FOR_SPLIT = 12288,
     MOST_FOR_READ = 12288,
     MOST_FOR_WRITE = 12288,
@@ -27,6 +30,8 @@ uint64_t split_alone(const uint8_t *file, size_t len, uint64_t group, int32_t *w
 
 static uint8_t out[OUT_LENGTH], again[OUT_LENGTH];
 static size_t written;  // the length of the build's answer, in `out`
+static uint8_t tree[FLIPCUT_MOST_TREE];
+static size_t tree_length;
 static uint64_t numbers[FLIPCUT_READ_RESULTS];
 static struct flipcut_answer answer;
 static struct flipcut_flip flips[M];
@@ -42,6 +47,13 @@ static void build_of_one(void) {
 static void build_of_two(void) {
     written = flipcut_written(flipcut_build(file, file_length, ws, N * M, out, OUT_LENGTH));
     taken = written > 0;
+}
+static void tree_alone(void) {
+    tree_length = flipcut_written(flipcut_tree(file, file_length, ws, N * M, tree, sizeof tree));
+    taken = tree_length > 0;
+}
+static void flips_of_tree(void) {
+    taken = flipcut_written(flipcut_flips(file, file_length, tree, tree_length, ws, N * M, again, OUT_LENGTH)) == written;
 }
 static void split_of_one(void) { taken = split_alone(file, file_length, ~0ull, ws, N * M) != 0; }
 static void split_of_two(void) {
@@ -81,7 +93,8 @@ static void write_tree(void) {
     taken = flipcut_written(flipcut_write_newick(out, written, names, names_length, newick, sizeof newick)) > 0;
 }
 
-// In this order, since what is read, written and scored is the build's answer, and the names are those of the source trees.
+// In this order, since what is read, written and scored is the build's answer, the flips are those of the tree, and the names are those of the source
+// trees.
 static struct {
     const char *name;
     void (*run)(void);
@@ -89,6 +102,8 @@ static struct {
 } operations[] = {
     {"build, one caller", build_of_one, MOST_FOR_BUILD, 0},
     {"build, two callers", build_of_two, MOST_FOR_BUILD, 0},
+    {"tree", tree_alone, MOST_FOR_TREE, 0},
+    {"flips", flips_of_tree, MOST_FOR_FLIPS, 0},
     {"read", read_back, MOST_FOR_READ, 0},
     {"write", write_again, MOST_FOR_WRITE, 0},
     {"score", score, MOST_FOR_SCORE, 0},

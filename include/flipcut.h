@@ -2,19 +2,21 @@
  *
  * Each function answers one packed 64-bit number. Where bit 63 is set the call
  * was refused: flipcut_number and flipcut_place say why and where (the table of
- * docs/RULES.md, "Refusals"), and all memory that was lent is as it was. Where
- * it is clear the call succeeded, and the functions named with each take the
- * results apart.
+ * docs/RULES.md, "Refusals"), and all memory that was lent is as it was, with
+ * one exception: where flipcut_flips refuses with 26, its workspace is as after
+ * success. Where the bit is clear the call succeeded, and the functions named
+ * with each take the results apart.
  *
  * A file, a list or a buffer is a pointer and a length, in bytes or in elements.
  * A null pointer, or any pointer with the length 0, is an empty one. Nothing is
  * kept after a call, and nothing is written but what is said to be. What is
  * written must not overlap anything else that the same call is given.
  *
- * Stack: a call of the build takes 37,680 bytes at most, of the split 12,256, of
- * the reading 9,384, of the writing 8,024, of the score 3,352, of the check 120.
+ * Stack: a call of the build takes 37,680 bytes at most, of the tree 0[FILL-IN],
+ * of the flips 0[FILL-IN], of the split 12,256, of the reading 9,384, of the
+ * writing 8,024, of the score 3,352, of the check 120.
  * Measured on x86-64 for 64 taxa and 256 columns, the most there can be; every
- * release keeps below 40 KiB, three times 12, 4 and 1.
+ * release keeps below three times 40 KiB, three times 12, 4 and 1.
  */
 #ifndef FLIPCUT_H
 #define FLIPCUT_H
@@ -30,6 +32,7 @@
 #define FLIPCUT_MOST_WORKSPACE (FLIPCUT_MOST_TAXA * FLIPCUT_MOST_COLUMNS) /* numbers */
 #define FLIPCUT_MOST_MATRIX 5712                                           /* bytes */
 #define FLIPCUT_MOST_ANSWER 6660                                           /* bytes */
+#define FLIPCUT_MOST_TREE 1028                                             /* bytes: the answer file of a tree without flips */
 #define FLIPCUT_MOST_NAME 32                                               /* bytes */
 #define FLIPCUT_MOST_NAMES 2308                                            /* bytes: a list of 64 names */
 #define FLIPCUT_MOST_SOURCE_MATRIX 5644                                    /* bytes: the matrix of source trees */
@@ -82,6 +85,20 @@ uint64_t flipcut_check(const uint8_t *file, size_t len);
  * (1 to 8, 21), then 9 for the workspace, 10 for `out`. Success: flipcut_written, flipcut_total. */
 uint64_t flipcut_build(const uint8_t *matrix, size_t matrix_len, int32_t *workspace, size_t workspace_len, uint8_t *out,
                        size_t out_len);
+
+/* The first half of a build: writes the groups of the tree with their costs, as an answer file without flips, to the start of
+ * `out`, which is to have 20 + 16(n - 1) bytes, also where less is written. The workspace is that of the build. Refusals: the
+ * matrix's (1 to 8, 21), then 9 for the workspace, 10 for `out`. Success: flipcut_written, flipcut_total. */
+uint64_t flipcut_tree(const uint8_t *matrix, size_t matrix_len, int32_t *workspace, size_t workspace_len, uint8_t *out,
+                      size_t out_len);
+
+/* The second half: takes the same matrix file and what flipcut_tree wrote of it, and writes the whole answer file, as the
+ * build does, to the start of `out`. The workspace and `out` are those of the build. Refusals: the matrix's (1 to 8, 21), then
+ * the tree file's (1 to 4, 6, 8, 12 to 14, the place in that file), then 15 where it has not the matrix's n and m, 9 for the
+ * workspace, 10 for `out`, 26 where it is not, byte for byte, what flipcut_tree writes of this matrix. After 26 the workspace
+ * is as after success, and `out` as it was. Success: flipcut_written, flipcut_total. */
+uint64_t flipcut_flips(const uint8_t *matrix, size_t matrix_len, const uint8_t *tree, size_t tree_len, int32_t *workspace,
+                       size_t workspace_len, uint8_t *out, size_t out_len);
 
 /* Splits a group of a matrix file, its columns as they are in the file. The workspace is that of the build. Refusals: the
  * matrix's (1 to 8, 21), then 11 for the group, 9 for the workspace. Success: result[FLIPCUT_COST] is the cost of the
@@ -149,6 +166,21 @@ static inline uint64_t flipcut_build_lent(const uint8_t *matrix, size_t matrix_l
                          (uint8_t *)flipcut_start(out, out_len), flipcut_length(out, out_len));
 }
 
+static inline uint64_t flipcut_tree_lent(const uint8_t *matrix, size_t matrix_len, int32_t *workspace, size_t workspace_len,
+                                         uint8_t *out, size_t out_len) {
+    return flipcut_tree((const uint8_t *)flipcut_start(matrix, matrix_len), flipcut_length(matrix, matrix_len),
+                        (int32_t *)flipcut_start(workspace, workspace_len), flipcut_length(workspace, workspace_len),
+                        (uint8_t *)flipcut_start(out, out_len), flipcut_length(out, out_len));
+}
+
+static inline uint64_t flipcut_flips_lent(const uint8_t *matrix, size_t matrix_len, const uint8_t *tree, size_t tree_len,
+                                          int32_t *workspace, size_t workspace_len, uint8_t *out, size_t out_len) {
+    return flipcut_flips((const uint8_t *)flipcut_start(matrix, matrix_len), flipcut_length(matrix, matrix_len),
+                         (const uint8_t *)flipcut_start(tree, tree_len), flipcut_length(tree, tree_len),
+                         (int32_t *)flipcut_start(workspace, workspace_len), flipcut_length(workspace, workspace_len),
+                         (uint8_t *)flipcut_start(out, out_len), flipcut_length(out, out_len));
+}
+
 static inline uint64_t flipcut_split_lent(const uint8_t *matrix, size_t matrix_len, uint64_t group, int32_t *workspace,
                                           size_t workspace_len, uint64_t *result) {
     uint64_t unwanted[FLIPCUT_SPLIT_RESULTS] = {0};
@@ -199,6 +231,8 @@ static inline uint64_t flipcut_check_names_lent(const uint8_t *names, size_t len
 
 #define flipcut_check(...) flipcut_check_lent(__VA_ARGS__)
 #define flipcut_build(...) flipcut_build_lent(__VA_ARGS__)
+#define flipcut_tree(...) flipcut_tree_lent(__VA_ARGS__)
+#define flipcut_flips(...) flipcut_flips_lent(__VA_ARGS__)
 #define flipcut_split(...) flipcut_split_lent(__VA_ARGS__)
 #define flipcut_read(...) flipcut_read_lent(__VA_ARGS__)
 #define flipcut_write(...) flipcut_write_lent(__VA_ARGS__)
@@ -242,8 +276,8 @@ static inline unsigned flipcut_columns(uint64_t packed) {
     return (unsigned)flipcut_result(packed, 16, 16);
 }
 
-/* flipcut_build, flipcut_write, flipcut_write_newick: how many bytes were written; flipcut_read_newick: how many of the
- * matrix. */
+/* flipcut_build, flipcut_tree, flipcut_flips, flipcut_write, flipcut_write_newick: how many bytes were written;
+ * flipcut_read_newick: how many of the matrix. */
 static inline size_t flipcut_written(uint64_t packed) {
     return (size_t)flipcut_result(packed, 32, 31);
 }
@@ -258,7 +292,7 @@ static inline uint64_t flipcut_names(uint64_t packed) {
     return flipcut_result(packed, 0, 63);
 }
 
-/* flipcut_build: the total, which is the sum of the split costs. */
+/* flipcut_build, flipcut_tree, flipcut_flips: the total, which is the sum of the split costs. */
 static inline uint32_t flipcut_total(uint64_t packed) {
     return (uint32_t)flipcut_result(packed, 0, 32);
 }

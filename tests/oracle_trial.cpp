@@ -6,11 +6,13 @@
 #include "gen/matrices.h"
 #include "oracle/build.h"
 #include "oracle/division.h"
+#include "oracle/halves.h"
 #include "oracle/outline.h"
 #include "oracle/score.h"
 #include "specimens.h"
 #include "tally.h"
 #include "trial.h"
+#include "worked_halves.h"
 
 namespace {
 
@@ -56,6 +58,19 @@ void specimen_workspaces(Tally& tally) {
         const bool taken = !oracle::build(file, needed, large).refusal.refused();
         const bool refused = needed == 0 || oracle::build(file, needed - 1, large).refusal == oracle::Refusal{9, 0};
         if (!taken || !refused) tally.differ("the workspace that a specimen needs", file);
+    }
+}
+
+// A build in two operations, by hand (document 02's C-18).
+void worked_cases(Tally& tally, const std::vector<WorkedHalf>& all, bool second) {
+    for (const WorkedHalf& worked : all) {
+        const oracle::BuildOutcome found = second
+                                               ? oracle::flips(worked.matrix, worked.tree, worked.workspace, worked.room)
+                                               : oracle::tree(worked.matrix, worked.workspace, worked.room);
+        if (found.refusal != worked.refusal) tally.differ(worked.what + ": " + text(found.refusal), worked.matrix);
+        if (found.total != worked.total || found.file != worked.file || found.cleared != worked.cleared)
+            tally.differ(worked.what, worked.matrix);
+        tally.agreed(worked.refusal.number, worked.matrix);
     }
 }
 
@@ -116,6 +131,21 @@ std::uint64_t weighed_flips(const Matrix& matrix, const Answer& answer) {
     return sum;
 }
 
+// The tree of a build reads back to its groups and costs and no flip, its flips are the build's file, and the build's own file is
+// no tree's unless nothing is flipped.
+void halves_case(Tally& tally, const Matrix& matrix, const Answer& answer) {
+    const Bytes file = oracle::matrix_file(matrix), whole = oracle::answer_file(answer);
+    const std::size_t ones = oracle::one_entries(matrix), room = 20 + 16 * (matrix.n - 1);
+    const std::size_t whole_room = room + 22 * matrix.columns.size();
+    const Bytes tree = oracle::tree(file, ones, room).file;
+    oracle::AnswerValue value = oracle::read(tree, 0).answer.value;
+    value.flip_count = answer.value.flip_count;
+    if (tree.size() != 20 + 16u * value.group_count || !(value == answer.value)) tally.differ("the tree of a build", file);
+    if (oracle::flips(file, tree, ones, whole_room).file != whole) tally.differ("the flips of a tree", file);
+    const unsigned given_whole = oracle::flips(file, whole, ones, whole_room).refusal.number;
+    if (given_whole != (answer.flips.empty() ? 0u : 26u)) tally.differ("a whole answer for a tree", file);
+}
+
 // What is built reads back, is written back, its total is the weighed flips and its score no more; a tree's own matrix needs none.
 void build_case(Tally& tally, gen::Random& random) {
     const gen::Style style = gen::random_style(random);
@@ -134,6 +164,7 @@ void build_case(Tally& tally, gen::Random& random) {
     const oracle::ScoreOutcome score = oracle::score(file, written);
     if (score.raises + score.lowers > answer.value.total) tally.differ("a score above the total", file);
     if (style.shape == gen::Shape::tree && answer.value.total != 0) tally.differ("flips for a tree's own matrix", file);
+    halves_case(tally, matrix, answer);
     tally.agreed(0, file);
 }
 
@@ -159,6 +190,8 @@ int main(int argc, char** argv) {
     specimen_cases(tally);
     specimen_numbers(tally);
     specimen_workspaces(tally);
+    worked_cases(tally, worked_first(), false);
+    worked_cases(tally, worked_second(), true);
     order_case(tally);
     for (unsigned long k = 0; k < words.count; ++k) {
         division_case(tally, random);

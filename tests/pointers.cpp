@@ -23,6 +23,8 @@ extern "C" {
 
 decltype(flipcut_check) __real_flipcut_check;
 decltype(flipcut_build) __real_flipcut_build;
+decltype(flipcut_tree) __real_flipcut_tree;
+decltype(flipcut_flips) __real_flipcut_flips;
 decltype(flipcut_split) __real_flipcut_split;
 decltype(flipcut_read) __real_flipcut_read;
 decltype(flipcut_write) __real_flipcut_write;
@@ -38,6 +40,18 @@ std::uint64_t __wrap_flipcut_check(const std::uint8_t* file, std::size_t len) {
 std::uint64_t __wrap_flipcut_build(const std::uint8_t* matrix, std::size_t matrix_len, std::int32_t* workspace,
                                    std::size_t workspace_len, std::uint8_t* out, std::size_t out_len) {
     return __real_flipcut_build(lent(matrix), matrix_len, lent(workspace), workspace_len, lent(out), out_len);
+}
+
+std::uint64_t __wrap_flipcut_tree(const std::uint8_t* matrix, std::size_t matrix_len, std::int32_t* workspace,
+                                  std::size_t workspace_len, std::uint8_t* out, std::size_t out_len) {
+    return __real_flipcut_tree(lent(matrix), matrix_len, lent(workspace), workspace_len, lent(out), out_len);
+}
+
+std::uint64_t __wrap_flipcut_flips(const std::uint8_t* matrix, std::size_t matrix_len, const std::uint8_t* tree,
+                                   std::size_t tree_len, std::int32_t* workspace, std::size_t workspace_len,
+                                   std::uint8_t* out, std::size_t out_len) {
+    return __real_flipcut_flips(lent(matrix), matrix_len, lent(tree), tree_len, lent(workspace), workspace_len, lent(out),
+                                out_len);
 }
 
 std::uint64_t __wrap_flipcut_split(const std::uint8_t* matrix, std::size_t matrix_len, std::uint64_t group,

@@ -18,21 +18,6 @@ std::string numbered(unsigned number) {
     return std::string(digits.size() < 3 ? 3 - digits.size() : 0, '0') + digits;
 }
 
-// Bytes of hexadecimal digits; blanks stand where a reader wants them.
-Bytes hex(const std::string& digits) {
-    Bytes bytes;
-    std::string pair;
-    for (char digit : digits) {
-        if (digit == ' ') continue;
-        pair += digit;
-        if (pair.size() < 2) continue;
-        bytes.push_back(static_cast<std::uint8_t>(std::stoul(pair, nullptr, 16)));
-        pair.clear();
-    }
-    if (!pair.empty()) throw std::logic_error("half a byte");
-    return bytes;
-}
-
 Bytes with_byte(Bytes file, std::uint8_t byte) {
     file.push_back(byte);
     return file;
@@ -160,6 +145,20 @@ Bytes tree_file(unsigned n, const std::vector<oracle::TaxonSet>& groups) {
 }  // namespace
 
 oracle::Bytes bytes_of(const std::string& text) { return Bytes(text.begin(), text.end()); }
+
+oracle::Bytes hex(const std::string& digits) {
+    Bytes bytes;
+    std::string pair;
+    for (char digit : digits) {
+        if (digit == ' ') continue;
+        pair += digit;
+        if (pair.size() < 2) continue;
+        bytes.push_back(static_cast<std::uint8_t>(std::stoul(pair, nullptr, 16)));
+        pair.clear();
+    }
+    if (!pair.empty()) throw std::logic_error("half a byte");
+    return bytes;
+}
 
 std::string many_columns(unsigned count) { return repeated("((A,B),C);", count); }
 

@@ -10,6 +10,8 @@
 
 // Bytes of a text, as a program has them in quotes.
 oracle::Bytes bytes_of(const std::string& text);
+// Bytes of hexadecimal digits; blanks stand where a reader wants them.
+oracle::Bytes hex(const std::string& digits);
 
 // Source trees.
 struct WorkedText {

@@ -84,6 +84,40 @@ void spoil_flip(Random& random, Answer& answer) {
     }
 }
 
+// One cost by any bit that the total has room for, by one, or from one group to another.
+void change_costs(Random& random, AnswerValue& value, std::uint64_t how) {
+    Group& group = value.groups[random.below(value.group_count)];
+    Group& other = value.groups[random.below(value.group_count)];
+    const std::uint32_t change = how == 0 ? 1u << random.below(32) : 1u;
+    if (how == 2 && other.cost > 0) {
+        --other.cost;
+        ++group.cost;
+    } else if (value.total <= 0xffffffffu - change) {
+        group.cost += change;
+        value.total += change;
+    }
+}
+
+void leave_out_group(Random& random, AnswerValue& value) {
+    if (value.group_count < 2) return;
+    const std::uint64_t which = random.between(1, value.group_count - 1u);
+    value.total -= value.groups[which].cost;
+    std::copy(value.groups.begin() + static_cast<std::ptrdiff_t>(which) + 1, value.groups.begin() + value.group_count,
+              value.groups.begin() + static_cast<std::ptrdiff_t>(which));
+    value.groups[--value.group_count] = Group{};
+}
+
+// After those that are there, so that columns rise.
+void put_flip(Random& random, Answer& answer) {
+    const unsigned first = answer.flips.empty() ? 0 : answer.flips.back().column + 1u;
+    if (first >= answer.value.m) return;
+    const TaxonSet taxon = only(some_taxon(random, answer.value.n));
+    const TaxonSet raised = random.chance(50) ? taxon : 0;
+    const std::uint64_t column = random.between(first, answer.value.m - 1u);
+    answer.flips.push_back(Flip{static_cast<std::uint16_t>(column), raised, taxon & ~raised});
+    ++answer.value.flip_count;
+}
+
 }  // namespace
 
 Answer random_answer(Random& random, unsigned n, unsigned m) {
@@ -108,6 +142,14 @@ void spoil_records(Random& random, Answer& answer) {
     else if (choice < 8 && !answer.flips.empty()) spoil_flip(random, answer);
     else if (choice == 8) wrap_costs(answer.value);
     else answer.value.total += random.chance(50) ? 1u : 0xffffffffu;
+}
+
+void change_lawfully(Random& random, Answer& answer) {
+    AnswerValue& value = answer.value;
+    const std::uint64_t choice = random.below(5);
+    if (choice == 4 || value.group_count == 0) put_flip(random, answer);
+    else if (choice == 3) leave_out_group(random, value);
+    else change_costs(random, value, choice);
 }
 
 void spoil_head(Random& random, AnswerValue& value) {

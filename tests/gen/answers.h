@@ -13,6 +13,10 @@ oracle::Answer random_answer(Random& random);
 // Changes one thing that a group, a flip or the total says; mostly the answer then breaks a rule.
 void spoil_records(Random& random, oracle::Answer& answer);
 
+// Changes one thing so that reading still takes the answer: a cost with the total, two costs against each other, a group but the
+// first left out, a flip put in, where there is room for it.
+void change_lawfully(Random& random, oracle::Answer& answer);
+
 // Changes one number of the head to any value at all.
 void spoil_head(Random& random, oracle::AnswerValue& value);
 

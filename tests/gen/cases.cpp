@@ -1,6 +1,7 @@
 #include "cases.h"
 
 #include "../oracle/build.h"
+#include "../oracle/halves.h"
 #include "../oracle/name_list.h"
 #include "../oracle/newick_text.h"
 #include "../oracle/source_trees.h"
@@ -43,6 +44,37 @@ Answer some_answer(Random& random) {
     return random.chance(40) ? oracle::answer_of(random_matrix(random)) : random_answer(random);
 }
 
+// A matrix whose tree may well be the same: one entry is another, or one weight.
+Matrix nearly(Random& random, Matrix matrix) {
+    if (matrix.columns.empty()) return matrix;
+    oracle::Column& column = matrix.columns[random.below(matrix.columns.size())];
+    const oracle::TaxonSet taxon = oracle::only(static_cast<unsigned>(random.below(matrix.n)));
+    switch (random.below(3)) {
+        case 0: column.weight = column.weight % 65535 + 1; break;
+        case 1: column.ones |= taxon, column.zeros &= ~taxon; break;
+        default: column.zeros |= taxon, column.ones &= ~taxon; break;
+    }
+    return matrix;
+}
+
+// What is given with a matrix for its tree.
+Answer answer_for(Random& random, const Matrix& matrix) {
+    const unsigned n = matrix.n, m = static_cast<unsigned>(matrix.columns.size());
+    const std::uint64_t choice = random.below(20);
+    if (choice == 0) return random_answer(random);  // mostly of another size
+    if (choice == 1) return random_answer(random, n, (m + 1) % 257);
+    if (choice == 2) return random_answer(random, n % 64 + 1, m);
+    if (choice == 3) return random_answer(random, n, m);
+    if (choice == 4) return oracle::without_flips(random_answer(random, n, m));
+    if (choice == 5) return oracle::without_flips(oracle::answer_of(random_matrix(random, n, m, random_style(random))));
+    if (choice == 6) return oracle::without_flips(oracle::answer_of(nearly(random, matrix)));
+    if (choice == 7) return oracle::answer_of(matrix);
+    Answer answer = oracle::without_flips(oracle::answer_of(matrix));
+    if (choice < 11) change_lawfully(random, answer);
+    else if (choice == 11) spoil_records(random, answer);
+    return answer;
+}
+
 }  // namespace
 
 SplitCase split_case(Random& random) {
@@ -61,6 +93,25 @@ BuildCase build_case(Random& random) {
     const Matrix matrix = random_matrix(random);
     BuildCase made;
     made.file = matrix_file_of(random, matrix);
+    made.workspace = workspace_for(random, matrix);
+    made.room = around(random, 20 + 16 * (matrix.n - 1) + 22 * matrix.columns.size());
+    return made;
+}
+
+BuildCase tree_case(Random& random) {
+    const Matrix matrix = random_matrix(random);
+    BuildCase made;
+    made.file = matrix_file_of(random, matrix);
+    made.workspace = workspace_for(random, matrix);
+    made.room = around(random, 20 + 16 * (matrix.n - 1));
+    return made;
+}
+
+FlipsCase flips_case(Random& random) {
+    const Matrix matrix = random_matrix(random);
+    FlipsCase made;
+    made.matrix = matrix_file_of(random, matrix);
+    made.tree = maybe_damaged(random, oracle::answer_file(answer_for(random, matrix)));
     made.workspace = workspace_for(random, matrix);
     made.room = around(random, 20 + 16 * (matrix.n - 1) + 22 * matrix.columns.size());
     return made;

@@ -23,6 +23,14 @@ struct BuildCase {
     std::size_t room;
 };
 
+// The second half of a build (document 02's C-18).
+struct FlipsCase {
+    oracle::Bytes matrix;
+    oracle::Bytes tree;
+    std::size_t workspace;
+    std::size_t room;
+};
+
 struct ReadCase {
     oracle::Bytes file;
     std::size_t list;
@@ -60,6 +68,10 @@ struct NewickTextCase {
 
 SplitCase split_case(Random& random);
 BuildCase build_case(Random& random);
+// The first half of a build, which needs less room.
+BuildCase tree_case(Random& random);
+// The matrix's own tree, one that is nearly so, its whole answer, that of another matrix or of none.
+FlipsCase flips_case(Random& random);
 ReadCase read_case(Random& random);
 WriteCase write_case(Random& random);
 ScoreCase score_case(Random& random);
