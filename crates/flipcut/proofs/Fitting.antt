@@ -2,7 +2,7 @@
 -- (`names-near`, `trees-near`, `text-near`).
 use mathlib.Core.Path.{_≡_, refl}
 use mathlib.Core.List.{List}
-use Prim.Native.Nat.{ℕ, _^_, _<_}
+use Prim.Native.Nat.{ℕ, _^_, _≤_, _<_}
 use native.Mathlib.Omega.{arith}
 use lib.ListN.{length}
 use Rattle.record.specs.Bytes.{File}
@@ -26,7 +26,10 @@ use Rattle.split.proofs.Places.{split-refused-small}
 use Rattle.tree.specs.declared.Built.{Built}
 use Rattle.tree.specs.declared.Built.the-variants as builds
 use Rattle.tree.specs.Build.{built}
-use Rattle.tree.proofs.Places.{built-small, build-refused-small}
+use Rattle.tree.specs.Tree.{treeGiven}
+use Rattle.tree.specs.Flips.{flipsGiven}
+use Rattle.tree.proofs.Places as tree
+use Rattle.tree.proofs.Places.{build-small, tree-small, flips-small}
 use Rattle.score.specs.declared.Scored.{Scored}
 use Rattle.score.specs.declared.Scored.the-variants as scores
 use Rattle.score.specs.Operation.{scored}
@@ -57,12 +60,20 @@ check-fits {file} f = go (checked file) refl
     go (checks.Taken n m) e = let fits = taken-legal f e in (omega (arith, fits .taxa-fit, taken-taxa f e), omega (arith, fits .columns-fit, taken-columns f e))
     go (checks.Refused why) e = let (near, some, small, other) = refusal-small file e in (omega arith, omega arith)
 
-pub build-fits : {file : List ℕ} → File file → (space room : ℕ) → BuildFits (built file space room)
-build-fits {file} f space room = go (built file space room) refl
-  where
-    go : (a : Built) → a ≡ built file space room → BuildFits a
-    go (builds.Taken size sum) e = let (short, small) = built-small f space room e in (omega arith, omega arith)
-    go (builds.Refused why) e = let (near, few) = build-refused-small file space room e in (omega arith, omega arith)
+-- What the build answers is small, and so is what its halves do.
+small-fits : {last : ℕ} {file : List ℕ} (a : Built) → last ≤ 26 → File file → tree.Small last file a → BuildFits a
+small-fits (builds.Taken size sum) l f small = let (short, low) = small f in (omega arith, omega arith)
+small-fits (builds.Refused why) l f (near, few) = (omega arith, omega arith)
+
+module _ {file : List ℕ} (f : File file) where
+  pub build-fits : (space room : ℕ) → BuildFits (built file space room)
+  build-fits space room = small-fits (built file space room) (omega arith) f (build-small file space room)
+
+  pub tree-fits : (space room : ℕ) → BuildFits (treeGiven file space room)
+  tree-fits space room = small-fits (treeGiven file space room) (omega arith) f (tree-small file space room)
+
+  pub flips-fit : (tree : List ℕ) (space room : ℕ) → BuildFits (flipsGiven file tree space room)
+  flips-fit tree space room = small-fits (flipsGiven file tree space room) (omega arith) f (flips-small file tree space room)
 
 pub split-fits : (file : List ℕ) (S room : ℕ) → SplitFits (divided file S room)
 split-fits file S room = go (divided file S room) refl

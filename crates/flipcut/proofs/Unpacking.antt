@@ -1,6 +1,7 @@
--- What C takes apart are the numbers that document 01 has the operation return: of the check (`check-unpacks`), the build (`build-unpacks`), the split
--- (`split-unpacks`), reading (`read-unpacks`), writing (`write-unpacks`), the score (`score-unpacks`), the check of a name list (`names-unpacks`), reading
--- source trees (`trees-unpacks`) and writing as Newick (`text-unpacks`); of these three where the text or the list is below 2 to the 55 bytes.
+-- What C takes apart are the numbers that document 01 has the operation return: of the check (`check-unpacks`), the build (`build-unpacks`) and its halves
+-- (`tree-unpacks`, `flips-unpack`), the split (`split-unpacks`), reading (`read-unpacks`), writing (`write-unpacks`), the score (`score-unpacks`), the check of
+-- a name list (`names-unpacks`), reading source trees (`trees-unpacks`) and writing as Newick (`text-unpacks`); of these three where the text or the list is
+-- below 2 to the 55 bytes.
 use mathlib.Core.Path.{_≡_, _∙_, ap}
 use mathlib.Core.List.{List}
 use Prim.Native.Nat.{ℕ, _^_, _<_}
@@ -16,16 +17,18 @@ use Rattle.entries.specs.declared.Flip.{Flip}
 use Rattle.entries.specs.Entries.{entryContent}
 use Rattle.split.specs.Operation.{splitNumbers}
 use Rattle.tree.specs.Build.{buildNumbers}
+use Rattle.tree.specs.Tree.{treeNumbers}
+use Rattle.tree.specs.Flips.{flipsNumbers}
 use Rattle.score.specs.Operation.{scored, scoreNumbers}
 use Rattle.names.specs.Check as names
 use Rattle.newick.specs.Read as newick
 use Rattle.spelling.specs.Write as spelling
 use Rattle.flipcut.specs.inner.Fitting.{TreesFit, TextFits}
-use Rattle.flipcut.specs.Packed.{packed, packedScore, BuildsPacked, SplitsPacked, ReadsPacked, WritesPacked}
+use Rattle.flipcut.specs.Packed.{packed, packedScore, BuildsPacked, GivesTreePacked, GivesFlipsPacked, SplitsPacked, ReadsPacked, WritesPacked}
 use Rattle.flipcut.specs.Packed.{packedNames, ReadsNewickPacked, WritesNewickPacked}
 use Rattle.flipcut.specs.Unpacked.{unpacked, unpackedBuild, unpackedRead, unpackedScore, unpackedSplit, unpackedWrite}
 use Rattle.flipcut.specs.Unpacked.{numberIn, unpackedNames, unpackedText, unpackedTrees}
-use Rattle.flipcut.proofs.Fitting.{check-fits, build-fits, split-fits, read-fits, write-fits, score-fits}
+use Rattle.flipcut.proofs.Fitting.{check-fits, build-fits, tree-fits, flips-fit, split-fits, read-fits, write-fits, score-fits}
 use Rattle.flipcut.proofs.Fitting.{names-fit, names-near, trees-fit, trees-near, text-fits, text-near}
 use Rattle.flipcut.proofs.Values.{read-long}
 use Rattle.flipcut.proofs.Bits.{check-returns, build-returns, split-returns, read-returns, write-returns, score-returns}
@@ -37,6 +40,14 @@ check-unpacks {file} f = check-returns (checked file) (check-fits f)
 pub build-unpacks : {file : List ℕ} → File file → {ws ws′ : List ℤ} {out out′ : List ℕ} {v : ℕ} → BuildsPacked file ws out v ws′ out′
     → unpackedBuild v ≡ buildNumbers file (length ws) (length out)
 build-unpacks f p = ap unpackedBuild (p .packs) ∙ (build-returns (p .answer) (rw (p .promised .answers) (build-fits f _ _)) ∙ p .promised .numbers)
+
+pub tree-unpacks : {file : List ℕ} → File file → {ws ws′ : List ℤ} {out out′ : List ℕ} {v : ℕ} → GivesTreePacked file ws out v ws′ out′
+    → unpackedBuild v ≡ treeNumbers file (length ws) (length out)
+tree-unpacks f p = ap unpackedBuild (p .packs) ∙ (build-returns (p .answer) (rw (p .promised .answers) (tree-fits f _ _)) ∙ p .promised .numbers)
+
+pub flips-unpack : {file tree : List ℕ} → File file → {ws ws′ : List ℤ} {out out′ : List ℕ} {v : ℕ} → GivesFlipsPacked file tree ws out v ws′ out′
+    → unpackedBuild v ≡ flipsNumbers file tree (length ws) (length out)
+flips-unpack f p = ap unpackedBuild (p .packs) ∙ (build-returns (p .answer) (rw (p .promised .answers) (flips-fit f _ _ _)) ∙ p .promised .numbers)
 
 pub split-unpacks : {file : List ℕ} {S : ℕ} {ws ws′ : List ℤ} {result result′ : List ℕ} {v : ℕ} → length result ≡ 3
     → SplitsPacked file S ws result v ws′ result′ → unpackedSplit v result′ ≡ splitNumbers file S (length ws)

@@ -1,5 +1,5 @@
 -- The packed numbers that C gets, one of 64 bits for each call. Bit 63 says whether the call was refused. If it was, bits 0 to 7 are the refusal's number
--- and bits 8 to 62 its place. If not: of the check, n is in bits 0 to 15 and m in bits 16 to 31; of the build, the total is in bits 0 to 31 and the length
+-- and bits 8 to 62 its place. If not: of the check, n is in bits 0 to 15 and m in bits 16 to 31; of the build, the tree and the flips, the total is in bits 0 to 31 and the length
 -- written in bits 32 to 62, where every writing has it; of the score, lowers are in bits 0 to 30 and raises in bits 31 to 61. Of source trees the matrix file's
 -- length is in bits 32 to 62 and the name list's in bits 0 to 31; of the check of a name list, bits 0 to 62 are how many names there are. What the split and
 -- the reading of an answer find does not fit, and is put into numbers that are lent for it.
@@ -25,6 +25,8 @@ use Rattle.split.specs.Operation.{Splits}
 use Rattle.tree.specs.declared.Built.{Built}
 use Rattle.tree.specs.declared.Built.the-variants as builds
 use Rattle.tree.specs.Build.{Builds}
+use Rattle.tree.specs.Tree.{GivesTree}
+use Rattle.tree.specs.Flips.{GivesFlips}
 use Rattle.score.specs.declared.Scored.{Scored}
 use Rattle.score.specs.declared.Scored.the-variants as scores
 use Rattle.names.specs.declared.Listed.{Listed}
@@ -45,7 +47,7 @@ abbrev pub packed : Checked → ℕ
 packed (Taken n m) = n + 65536 * m
 packed (Refused why) = packedRefusal why
 
--- What the build answers.
+-- What the build answers, and the tree and the flips.
 abbrev pub packedBuild : Built → ℕ
 packedBuild (builds.Taken size sum) = sum + 2 ^ 32 * size
 packedBuild (builds.Refused why) = packedRefusal why
@@ -125,6 +127,14 @@ pub record Packs {A : Type 0} (pack : A → ℕ) (Promised : A → Type 0) (v : 
 -- What the build promises C.
 abbrev pub BuildsPacked : List ℕ → List ℤ → List ℕ → ℕ → List ℤ → List ℕ → Type 0
 BuildsPacked file ws out v ws′ out′ = Packs packedBuild (λ r. Builds file ws out r ws′ out′) v
+
+-- What the tree promises C; its answer is packed as the build's.
+abbrev pub GivesTreePacked : List ℕ → List ℤ → List ℕ → ℕ → List ℤ → List ℕ → Type 0
+GivesTreePacked file ws out v ws′ out′ = Packs packedBuild (λ r. GivesTree file ws out r ws′ out′) v
+
+-- What the flips promise C, the same way.
+abbrev pub GivesFlipsPacked : List ℕ → List ℕ → List ℤ → List ℕ → ℕ → List ℤ → List ℕ → Type 0
+GivesFlipsPacked file tree ws out v ws′ out′ = Packs packedBuild (λ r. GivesFlips file tree ws out r ws′ out′) v
 
 -- What the split promises C; three numbers are lent for what it finds.
 abbrev pub SplitsPacked : List ℕ → ℕ → List ℤ → List ℕ → ℕ → List ℤ → List ℕ → Type 0

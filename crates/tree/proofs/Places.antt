@@ -1,5 +1,5 @@
--- What the build and its halves answer is small: the length and the total (`built-small`, `tree-small`, `flips-small`), or a refusal's place and number
--- (`build-refused-small` and so on).
+-- What the build and its halves answer is small: the length and the total or a refusal's place and number (`build-small`, `tree-small`,
+-- `flips-small`).
 use mathlib.Core.Path.{_≡_, refl}
 use mathlib.Core.Bool.{_&&_}
 use mathlib.Core.List.{List}
@@ -31,7 +31,7 @@ use Rattle.tree.specs.Flips.{treeFile, ifFirsts, agreed, afterTree, flip
 use Rattle.tree.proofs.Rules.{answer-fits, tree-fits}
 
 -- A refusal, of whatever file, by a number up to `last`; a length and a total, of a file of bytes.
-abbrev Small : ℕ → List ℕ → Built → Type 0
+abbrev pub Small : ℕ → List ℕ → Built → Type 0
 Small last file (Taken size sum) = File file → (size ≤ largest) × (sum < 2 ^ 31)
 Small last file (Refused why) = (why .place ≤ largest) × (why .number ≤ last)
 
@@ -49,25 +49,19 @@ whole-small last file e f =
 
 -- ---- the build
 
-small : (file : List ℕ) (space room : ℕ) → Small 21 file (built file space room)
+pub build-small : (file : List ℕ) (space room : ℕ) → Small 21 file (built file space room)
 unfolding built answered
-small file space room = go (checked file) refl
+build-small file space room = go (checked file) refl
   where
     go : (k : Checked) → k ≡ checked file → Small 21 file (answered k file space room)
     go (checks.Refused why) e = let (near, some, few, other) = refusal-small file e in (omega arith, few)
     go (checks.Taken n m) e = enough-small 21 file space (roomFor n m) room (takenOf file) (lit≤ tt) (whole-small 21 file e)
 
-pub built-small : {file : List ℕ} → File file → (space room : ℕ) {size sum : ℕ} → Taken size sum ≡ built file space room → (size ≤ largest) × (sum < 2 ^ 31)
-built-small {file} f space room e = (rw (← e) at (small file space room)) f
-
-pub build-refused-small : (file : List ℕ) (space room : ℕ) {why : Refusal} → Refused why ≡ built file space room → (why .place ≤ largest) × (why .number ≤ 21)
-build-refused-small file space room e = rw (← e) at (small file space room)
-
 -- ---- the tree
 
-small-tree : (file : List ℕ) (space room : ℕ) → Small 21 file (treeGiven file space room)
+pub tree-small : (file : List ℕ) (space room : ℕ) → Small 21 file (treeGiven file space room)
 unfolding treeGiven treeAnswered treeFor answer
-small-tree file space room = go (checked file) refl
+tree-small file space room = go (checked file) refl
   where
     go : (k : Checked) → k ≡ checked file → Small 21 file (treeAnswered k file space room)
     go (checks.Refused why) e = let (near, some, few, other) = refusal-small file e in (omega arith, few)
@@ -76,17 +70,11 @@ small-tree file space room = go (checked file) refl
         let ok = taken-sound f e in
         (omega (arith, tree-fits M ok, ok .few), omega (arith, promises.total-small M ok)))
 
-pub tree-small : {file : List ℕ} → File file → (space room : ℕ) {size sum : ℕ} → Taken size sum ≡ treeGiven file space room → (size ≤ largest) × (sum < 2 ^ 31)
-tree-small {file} f space room e = (rw (← e) at (small-tree file space room)) f
-
-pub tree-refused-small : (file : List ℕ) (space room : ℕ) {why : Refusal} → Refused why ≡ treeGiven file space room → (why .place ≤ largest) × (why .number ≤ 21)
-tree-refused-small file space room e = rw (← e) at (small-tree file space room)
-
 -- ---- the flips
 
-small-flips : (file tree : List ℕ) (space room : ℕ) → Small 26 file (flipsGiven file tree space room)
+pub flips-small : (file tree : List ℕ) (space room : ℕ) → Small 26 file (flipsGiven file tree space room)
 unfolding flipsGiven flipsAnswered agreed
-small-flips file tree space room = go (checked file) refl
+flips-small file tree space room = go (checked file) refl
   where
     read : {n m : ℕ} → checks.Taken n m ≡ checked file → (p : Passed) → By Few largest p → Small 26 file (afterTree file tree n m space room p)
     read e (passed.Refused why) (near, few) = (near, omega (arith, few .1))
@@ -99,9 +87,3 @@ small-flips file tree space room = go (checked file) refl
     go : (k : Checked) → k ≡ checked file → Small 26 file (flipsAnswered k file tree space room)
     go (checks.Refused why) e = let (near, some, few, other) = refusal-small file e in (omega arith, omega arith)
     go (checks.Taken n m) e = read e (fileTests tree) (answer-by tree)
-
-pub flips-small : {file : List ℕ} (tree : List ℕ) → File file → (space room : ℕ) {size sum : ℕ} → Taken size sum ≡ flipsGiven file tree space room → (size ≤ largest) × (sum < 2 ^ 31)
-flips-small {file} tree f space room e = (rw (← e) at (small-flips file tree space room)) f
-
-pub flips-refused-small : (file tree : List ℕ) (space room : ℕ) {why : Refusal} → Refused why ≡ flipsGiven file tree space room → (why .place ≤ largest) × (why .number ≤ 26)
-flips-refused-small file tree space room e = rw (← e) at (small-flips file tree space room)
