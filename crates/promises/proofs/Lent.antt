@@ -42,7 +42,7 @@ module _ {A : Type 0} where
   past-filled (suc k) v (x ∷ l) zero d b q = absurd (not-suc-le-zero q)
   past-filled (suc k) v (x ∷ l) (suc i) d b q = past-filled k v l i d (le-of-suc-le-suc b) (le-of-suc-le-suc q)
 
-one-for-each : (M : Matrix) (ws : List ℤ) → oneEntries M ≤ length ws → OneForEach1 M ws (cleared (oneEntries M) ws)
+pub one-for-each : (M : Matrix) (ws : List ℤ) → oneEntries M ≤ length ws → OneForEach1 M ws (cleared (oneEntries M) ws)
 one-for-each M ws l =
     let k = oneEntries M in
     record {

@@ -7,6 +7,7 @@ pub mod Answers
 pub mod OneAnswer
 pub mod Entries
 pub mod FromC
+pub mod Halves
 pub mod Newick
 pub mod Tree
 pub mod Score

@@ -1,5 +1,6 @@
 -- What people hold, and the specimens.
 pub mod Held
 pub mod Pairs
+pub mod Halves
 pub mod Lent
 pub mod Specimens

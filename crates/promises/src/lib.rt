@@ -3,5 +3,6 @@
 // operations, so that the theorems rest on contracts which the operations have.
 // Rests on taxa, method, record, grammar, matrix, answer, entries, search, split, tree, score, names, newick, spelling and flipcut.
 pub mod answer_operations;
+pub mod half_operations;
 pub mod newick_operations;
 pub mod operations;
