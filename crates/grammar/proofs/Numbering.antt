@@ -1,6 +1,6 @@
 -- Numbers by first appearance: each name of the text has one (`seen-has`, `number-at`), no two names share one (`seen-distinct`), and it never changes (`number-seen`).
 use mathlib.Core.Path.{_≡_, refl, sym, ap, _∙_}
-use mathlib.Core.Bool.{Bool, true, false, _&&_, _||_, cond, true≢false}
+use mathlib.Core.Bool.{Bool, true, false, _||_, cond, true≢false}
 use mathlib.Core.List.{List, [], _∷_, _++_, append-assoc, append-nil, List·Memᴰ, List·Memᴰ·head, List·Memᴰ·tail, Memᴰ·append-left, Memᴰ·append-right}
 use Prim.Native.Nat.{suc, _<_}
 use native.Mathlib.Omega.{arith}

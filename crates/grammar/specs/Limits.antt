@@ -1,6 +1,6 @@
 -- Taxa, and the limits of document 02: names of 1 to 32 bytes, none twice in a tree, at most 64 names and 256 columns, brackets nested at most 64.
 use mathlib.Core.Path.{_≡_}
-use mathlib.Core.Bool.{Bool, true, false, _||_, cond}
+use mathlib.Core.Bool.{Bool, false, _||_, cond}
 use mathlib.Core.List.{List, [], _∷_, _++_, List·Memᴰ}
 use Prim.Native.Nat.{ℕ, suc, max, _≤_}
 use lib.ListN.{length}

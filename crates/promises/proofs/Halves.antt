@@ -30,7 +30,6 @@ use Rattle.answer.proofs.Pieces.{length-file}
 use Rattle.answer.proofs.Places.{answer-by}
 use Rattle.method.specs.Tree.{oneEntries, answer}
 use Rattle.split.specs.Columns.{matrixIn}
-use Rattle.split.proofs.Soundness.{taken-known, taken-count}
 use Rattle.tree.specs.declared.Built.{Built}
 use Rattle.tree.specs.declared.Built.the-variants.{Taken, Refused}
 use Rattle.tree.specs.Lists as lists
@@ -49,7 +48,7 @@ use Rattle.promises.specs.Pairs.{AcceptedPair}
 use Rattle.promises.specs.Halves.{LeavesTree, Comparable}
 use Rattle.promises.specs.Lent.{OneForEach1}
 use Rattle.promises.proofs.Lent.{one-for-each}
-use Rattle.promises.proofs.Answers.{leaves-file, leaves-taken, answer-content, flips-are}
+use Rattle.promises.proofs.Answers.{leaves-file, answer-content, flips-are}
 
 -- ---- what the tree of a file comes to
 

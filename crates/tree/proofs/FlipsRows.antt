@@ -29,7 +29,7 @@ use Rattle.tree.specs.declared.Built.the-variants.{Refused}
 use Rattle.tree.specs.inner.Grow.{lacking}
 use Rattle.tree.specs.Build.{contentFor, roomFor, takenOf, outputAfter, returned}
 use Rattle.tree.specs.Flips.{treeFile, ifFirsts, agreed, flipsGiven, flipsAnswered, flipsWorkspace, GivesFlips}
-use Rattle.tree.proofs.Rows.{lacks, lack-few, has-enough, holds, output-left}
+use Rattle.tree.proofs.Rows.{lacks, lack-few, holds, output-left}
 
 -- ---- the workspace
 

@@ -1,6 +1,6 @@
 -- The build is its halves, one after the other: the flips of the tree's own file are what the build answers (`flips-of-tree`), and so is the tree followed
 -- by them (`build-is-both`). 26 is answered exactly where nothing else refuses and the file is another (`other-file`, `own-file`).
-use mathlib.Core.Path.{_≡_, refl, sym, ap, _∙_}
+use mathlib.Core.Path.{_≡_, refl, ap, _∙_}
 use mathlib.Core.Bool.{Bool, true, false, cond}
 use mathlib.Core.List.{List}
 use mathlib.Core.Logic.{_≢_}
@@ -16,14 +16,13 @@ use Rattle.record.proofs.Equal.{equal-refl, differs}
 use Rattle.matrix.specs.Check.{checked}
 use Rattle.matrix.specs.declared.Checked.{Checked}
 use Rattle.matrix.specs.declared.Checked.the-variants as checks
-use Rattle.answer.specs.Content.{Content, contentIn, fileOf, lengthOf}
+use Rattle.answer.specs.Content.{Content, contentIn, lengthOf}
 use Rattle.answer.specs.Lawful.{Lawful}
 use Rattle.answer.specs.Reading.{fileTests}
 use Rattle.answer.proofs.Encoding.{file-holds, file-taken}
-use Rattle.method.specs.Tree.{Matrix, oneEntries}
+use Rattle.method.specs.Tree.{oneEntries}
 use Rattle.split.specs.Columns.{matrixIn}
 use Rattle.split.proofs.Soundness.{taken-sound, taken-known, taken-count, few-taxa}
-use Rattle.tree.specs.declared.Built.{Built}
 use Rattle.tree.specs.declared.Built.the-variants.{Taken, Refused}
 use Rattle.tree.specs.Build.{treeFor, treeRoom, roomFor, written, takenOf, answered, built}
 use Rattle.tree.specs.Tree.{treeAnswered, treeGiven}

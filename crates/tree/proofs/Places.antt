@@ -7,7 +7,6 @@ use Prim.Native.Nat.{ℕ, _^_, _≤_, _<_}
 use native.Mathlib.Omega.{arith}
 use lib.Dec.{ltb, eqb, lit≤}
 use Rattle.record.specs.Bytes.{File, equal}
-use Rattle.record.specs.declared.Refusal.{Refusal}
 use Rattle.record.specs.declared.Passed.{Passed}
 use Rattle.record.specs.declared.Passed.the-variants as passed
 use Rattle.record.proofs.Steps.{either-way}

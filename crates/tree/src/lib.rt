@@ -14,18 +14,15 @@ use record::number::u16_at;
 use split::columns;
 ghost use mathlib.Core.Path.{_≡_};
 ghost use mathlib.Core.Bool.{_&&_};
-ghost use Prim.Native.Nat.{_≤_};
+ghost use Prim.Native.Nat.{_≤_, _<_};
 ghost use lib.Dec.{eqb};
 ghost use lib.ListN.{length};
-ghost use Rattle.record.specs.Bytes.{over};
 ghost use Rattle.record.specs.Records.{refused};
 ghost use Rattle.matrix.specs.Check.{checked};
 ghost use Rattle.matrix.specs.declared.Checked.the-variants as checks;
 ghost use Rattle.answer.specs.Content.{contentIn};
-ghost use Rattle.split.specs.Columns.{matrixIn};
-ghost use Rattle.method.specs.Tree.{oneEntries};
 ghost use Rattle.tree.specs.inner.Grow.{lacking};
-ghost use Rattle.tree.specs.Build.{answered, outputAfter, workspaceAfter, Builds};
+ghost use Rattle.tree.specs.Build.{treeRoom, roomFor, answered, outputAfter, workspaceAfter, Builds};
 ghost use Rattle.tree.specs.Tree.{treeAnswered, treeOutput, GivesTree};
 ghost use Rattle.tree.specs.Flips.{agreed, flipsWorkspace, GivesFlips};
 
@@ -55,6 +52,21 @@ fn lack(space: usize, needed: usize, room: usize, wanted: usize) -> u8
     0
 }
 
+// What the groups of n taxa take at most, and with the flips of m columns.
+fn tree_room(n: u16) -> usize
+    requires { ⌜ 0 < n ⌝ }
+    ensures { λ r. ⌜ r ≡ treeRoom n ⌝ }
+{
+    20 + 16 * (n as usize - 1)
+}
+
+fn answer_room(n: u16, m: u16) -> usize
+    requires { ⌜ 0 < n ⌝ }
+    ensures { λ r. ⌜ r ≡ roomFor n m ⌝ }
+{
+    tree_room(n) + 22 * m as usize
+}
+
 // A matrix that is taken, built: the refusals of the workspace and of the output, and else the tree and then its flips.
 fn build_taken(file: &[u8], n: u16, m: u16, workspace: &mut [i32], out: &mut [u8]) -> Built
     requires { ⌜ checks.Taken n m ≡ checked (now file) ⌝ }
@@ -64,8 +76,7 @@ fn build_taken(file: &[u8], n: u16, m: u16, workspace: &mut [i32], out: &mut [u8
         × (now (workspace .exit) ≡ workspaceAfter (now (file .entry)) r (now (workspace .entry))) ⌝ }
 {
     let needed = columns::one_entries(file, m as usize);
-    let wanted = 20 + 16 * (n as usize - 1) + 22 * m as usize;
-    let lack = lack(workspace.len(), needed, out.len(), wanted);
+    let lack = lack(workspace.len(), needed, out.len(), answer_room(n, m));
     if lack != 0 {
         return refused(lack);
     }
@@ -95,8 +106,7 @@ fn tree_taken(file: &[u8], n: u16, m: u16, workspace: &mut [i32], out: &mut [u8]
         × (now (workspace .exit) ≡ workspaceAfter (now (file .entry)) r (now (workspace .entry))) ⌝ }
 {
     let needed = columns::one_entries(file, m as usize);
-    let wanted = 20 + 16 * (n as usize - 1);
-    let lack = lack(workspace.len(), needed, out.len(), wanted);
+    let lack = lack(workspace.len(), needed, out.len(), tree_room(n));
     if lack != 0 {
         return refused(lack);
     }
@@ -148,8 +158,7 @@ fn flips_taken(
         return refused(15);
     }
     let needed = columns::one_entries(file, m as usize);
-    let wanted = 20 + 16 * (n as usize - 1) + 22 * m as usize;
-    let lack = lack(workspace.len(), needed, out.len(), wanted);
+    let lack = lack(workspace.len(), needed, out.len(), answer_room(n, m));
     if lack != 0 {
         return refused(lack);
     }

@@ -1,5 +1,4 @@
 -- `tree::agrees` meets its contract.
-use borrow.Author.Needs.{needs}
 use borrow.Author.Tests.{eq-eqb, ne-eqb}
 use mathlib.Core.Path.{_∙_, sym}
 use native.Mathlib.Omega.{arith}

@@ -31,14 +31,14 @@ abbrev entry : tie.After-agrees → tie.After-shared-slice-known
 entry c = c .before .before .before
 
 abbrev begun : tie.After-lack → tie.Start
-begun c = entry (c .before .before .before) .before
+begun c = entry (c .before .before .before .before) .before
 
 agree : (c : tie.Else1) → let a = entry (c .before) .before .args in (eqb (contentIn (a .tree .now) .n) (a .n) && eqb (contentIn (a .tree .now) .m) (a .m)) ≡ true
 agree c = sym (c .before .agrees .ensures) ∙ not-false _ (c .if1 .left)
 
 lack-is : (c : tie.After-lack) → let a = begun c .args in
     c .lack .result ≡ lacking (length (a .workspace .now)) (oneEntries (matrixIn (a .file .now))) (length (a .out .now)) (roomFor (a .n) (a .m))
-lack-is c = let a = begun c .args in c .lack .ensures ∙ ap (λ k. lacking (length (a .workspace .now)) k (length (a .out .now)) (roomFor (a .n) (a .m))) (c .before .one-entries .ensures)
+lack-is c = let a = begun c .args in c .lack .ensures ∙ (λ i. lacking (length (a .workspace .now)) (c .before .before .one-entries .ensures i) (length (a .out .now)) (c .before .answer-room .ensures i))
 
 lent : (c : tie.Else2) → let a = begun (c .before) .args in (oneEntries (matrixIn (a .file .now)) ≤ length (a .workspace .now)) × (roomFor (a .n) (a .m) ≤ length (a .out .now))
 lent c = enough _ _ _ _ (omega (arith, lack-is (c .before), c .if2 .left))
@@ -50,7 +50,7 @@ abbrev tested : tie.After-grow-tree → tie.Else2
 tested c = c .before .before .before .before
 
 whole-file : (c : tie.After-grow-tree) → File (begun (tested c .before) .args .file .now)
-whole-file c = bytes (entry (tested c .before .before .before .before))
+whole-file c = bytes (entry (tested c .before .before .before .before .before))
 
 -- Whether the tree file is the first's.
 abbrev grown : tie.After-is-tree → tie.After-grow-tree
@@ -69,11 +69,11 @@ one-entries-requires c κs =
     let fits = can-load (bytes at) (at .before .pre .0) refl in
     (fits .0, fits .1, few-columns (bytes at) (at .before .pre .0))
 
-sub-wanted : tie.Need-sub-wanted
-sub-wanted c = let at = entry (c .before .before) in omega (arith, some-taxa (bytes at) (at .before .pre .0))
+answer-room-requires : tie.Need-answer-room-requires
+answer-room-requires c κs = let at = entry (c .before .before) in some-taxa (bytes at) (at .before .pre .0)
 
 grow-tree-requires : tie.Need-grow-tree-requires
-grow-tree-requires c κs = let at = c .before .before .before in (growable at, at .before .before .one-entries .ensures)
+grow-tree-requires c κs = let at = c .before .before .before in (growable at, at .before .before .before .one-entries .ensures)
 
 is-tree-requires : tie.Need-is-tree-requires
 is-tree-requires c κs =
@@ -90,7 +90,7 @@ returns c = let at = c .before .before in rw (c .refused .ensures) (disagree-row
 returns-2 : tie.Need-returns-2
 returns-2 c =
     let at = c .before .before in
-    rw (c .refused2 .ensures) (lack-row _ _ _ _ _ _ _ _ (agree (at .before .before)) (lack-is at) (λ e. c .before .if2 .taken e))
+    rw (c .refused2 .ensures) (lack-row _ _ _ _ _ _ _ _ (agree (at .before .before .before)) (lack-is at) (λ e. c .before .if2 .taken e))
 
 returns-3 : tie.Need-returns-3
 returns-3 c =
@@ -98,7 +98,7 @@ returns-3 c =
     let at = grown asked in
     let (long, fits) = lent (tested at) in
     rw (c .refused3 .ensures)
-    (differs-row _ _ _ _ _ _ _ _ (agree (tested at .before .before .before)) long fits (at .grow-tree .ensures .1) (firsts asked ∙ not-true _ (c .before .if3 .taken)))
+    (differs-row _ _ _ _ _ _ _ _ (agree (tested at .before .before .before .before)) long fits (at .grow-tree .ensures .1) (firsts asked ∙ not-true _ (c .before .if3 .taken)))
 
 returns-4 : tie.Need-returns-4
 returns-4 c =
@@ -106,7 +106,7 @@ returns-4 c =
     let same = wrote .before .before .before .before in
     let at = grown (same .before) in
     let (long, fits) = lent (tested at) in
-    whole-row _ _ _ _ _ _ _ _ (agree (tested at .before .before .before)) long fits (at .grow-tree .ensures .1) (firsts (same .before) ∙ not-false _ (same .if3 .left))
+    whole-row _ _ _ _ _ _ _ _ (agree (tested at .before .before .before .before)) long fits (at .grow-tree .ensures .1) (firsts (same .before) ∙ not-false _ (same .if3 .left))
     (answers-all (wrote .write-whole .ensures) (whole-is (at .grow-tree .ensures .0)) (whole-written (whole-file at) (growable (tested at)) _ fits))
 
 pub flips-taken-spec : {M : Type 1} → statement M
@@ -117,8 +117,7 @@ flips-taken-spec =
     (λ c κs. search needs)
     returns
     one-entries-requires
-    sub-wanted
-    (λ c. search needs) (λ c. search needs) (λ c. search needs) (λ c. search needs)
+    answer-room-requires
     (λ c κs. search needs)
     (λ c κs. search needs)
     returns-2

@@ -1,7 +1,7 @@
 -- `tree::tree_taken` meets its contract: each return is a row of its table.
 use borrow.Author.Needs.{needs}
 use native.Mathlib.Omega.{arith}
-use mathlib.Core.Path.{_≡_, refl, ap, _∙_}
+use mathlib.Core.Path.{_≡_, refl, _∙_}
 use Prim.Native.Nat.{_≤_}
 use lib.ListN.{length}
 use Rattle.record.specs.Bytes.{File}
@@ -21,11 +21,11 @@ bytes c = record { byte = λ i. omega (arith, c .shared-slice-known .given i) }
 
 -- What was tested of what is lent.
 abbrev begun : tie.After-lack → tie.Start
-begun c = c .before .before .before .before
+begun c = c .before .before .before .before .before
 
 lack-is : (c : tie.After-lack) → let a = begun c .args in
     c .lack .result ≡ lacking (length (a .workspace .now)) (oneEntries (matrixIn (a .file .now))) (length (a .out .now)) (treeRoom (a .n))
-lack-is c = let a = begun c .args in c .lack .ensures ∙ ap (λ k. lacking (length (a .workspace .now)) k (length (a .out .now)) (treeRoom (a .n))) (c .before .one-entries .ensures)
+lack-is c = let a = begun c .args in c .lack .ensures ∙ (λ i. lacking (length (a .workspace .now)) (c .before .before .one-entries .ensures i) (length (a .out .now)) (c .before .tree-room .ensures i))
 
 lent : (c : tie.Else1) → let a = begun (c .before) .args in (oneEntries (matrixIn (a .file .now)) ≤ length (a .workspace .now)) × (treeRoom (a .n) ≤ length (a .out .now))
 lent c = enough _ _ _ _ (omega (arith, lack-is (c .before), c .if1 .left))
@@ -39,8 +39,8 @@ one-entries-requires c κs =
     let fits = can-load (bytes at) (at .before .pre) refl in
     (fits .0, fits .1, few-columns (bytes at) (at .before .pre))
 
-sub-wanted : tie.Need-sub-wanted
-sub-wanted c = let at = c .before .before in omega (arith, some-taxa (bytes at) (at .before .pre))
+tree-room-requires : tie.Need-tree-room-requires
+tree-room-requires c κs = let at = c .before .before in some-taxa (bytes at) (at .before .pre)
 
 returns : tie.Need-returns
 returns c =
@@ -48,14 +48,14 @@ returns c =
     rw (c .refused .ensures) (tree-lacks _ _ _ _ _ (lack-is at) (λ e. c .before .if1 .taken e), tree-output-left _ _ _, workspace-left _ _ _)
 
 grow-tree-requires : tie.Need-grow-tree-requires
-grow-tree-requires c κs = let at = c .before .before .before in (growable at, at .before .before .one-entries .ensures)
+grow-tree-requires c κs = let at = c .before .before .before in (growable at, at .before .before .before .one-entries .ensures)
 
 returns-2 : tie.Need-returns-2
 returns-2 c =
     let wrote = c .before .before in
     let grown = wrote .before .before .before in
     let at = grown .before .before .before .before in
-    let f = bytes (at .before .before .before .before) in
+    let f = bytes (at .before .before .before .before .before) in
     let (long, fits) = lent at in
     tree-row _ _ _ _ _ _ _ long (grown .grow-tree .ensures .1) fits (answers-all (wrote .write-tree .ensures) (grown .grow-tree .ensures .0 .tree) (tree-written f (growable at) _ fits))
 
@@ -64,8 +64,7 @@ tree-taken-spec =
     tie.close
     (tie.spec
     one-entries-requires
-    sub-wanted
-    (λ c. search needs) (λ c. search needs)
+    tree-room-requires
     (λ c κs. search needs)
     (λ c κs. search needs)
     returns

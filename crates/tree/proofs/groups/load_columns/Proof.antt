@@ -1,6 +1,5 @@
 -- `tree::groups::load_columns` meets its contract: the columns are loaded into the first entries.
 use borrow.Author.Needs.{needs}
-use native.Mathlib.Omega.{arith}
 use mathlib.Core.Path.{sym, _∙_}
 use lib.Seq.{length-take-le}
 use Rattle.tree.proofs.Building.{in-front}
