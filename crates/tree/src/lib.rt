@@ -158,7 +158,8 @@ fn flips_taken(
         return refused(15);
     }
     let needed = columns::one_entries(file, m as usize);
-    let lack = lack(workspace.len(), needed, out.len(), answer_room(n, m));
+    let wanted = answer_room(n, m);
+    let lack = lack(workspace.len(), needed, out.len(), wanted);
     if lack != 0 {
         return refused(lack);
     }
