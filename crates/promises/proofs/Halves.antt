@@ -1,6 +1,6 @@
 -- C-18, of what people hold: the tree file has the groups and costs of the answer and no flips (`same-groups`), and reading takes it (`tree-read`); the flips
 -- of it are the build, in every number and buffer (`flips-are-the-build`); any other file is refused with 26, exactly where nothing else refuses
--- (`differs-exactly`), and this one is taken (`taken-exactly`). And of both operations what demands 1 and 2 say of each: what a refusal leaves, 26 alone with a
+-- (`other-tree-exactly`), and this one is taken (`own-tree-exactly`). And of both operations what demands 1 and 2 say of each: what a refusal leaves, 26 alone with a
 -- workspace as after success (`refused-tree`, `refused-flips`, `flips-workspace`), and that two results coincide.
 use mathlib.Core.Path.{_≡_, refl, sym, ap, subst, _∙_}
 use mathlib.Core.Bool.{Bool, true, false, _&&_, cond, true≢false}
@@ -268,8 +268,8 @@ module _ {file tree : List ℕ} {ws : List ℤ} {out : List ℕ} {r : Built} {ws
     other-file e same = true≢false (sym (ap (λ (t : List ℕ). equal t (treeFile file)) (same ∙ tree-leaves-file l) ∙ equal-refl (treeFile file)) ∙ e)
 
     -- "26 where that file is not the first's": exactly there, if nothing else refuses.
-    pub differs-exactly : returned r .number ≡ 26 ↔ (Comparable file tree (length ws) (length out) × (tree ≢ own))
-    differs-exactly = (go came, λ (c, d). ap (λ (r : Built). returned r .number) (x .answers ∙ halves.other-file file tree (c .pair .accepted .taken) (c .pair .accepted .passes) (c .pair .same-n) (c .pair .same-m) (c .long) (c .fits) (λ e. d (e ∙ sym (tree-leaves-file l)))))
+    pub other-tree-exactly : returned r .number ≡ 26 ↔ (Comparable file tree (length ws) (length out) × (tree ≢ own))
+    other-tree-exactly = (go came, λ (c, d). ap (λ (r : Built). returned r .number) (x .answers ∙ halves.other-file file tree (c .pair .accepted .taken) (c .pair .accepted .passes) (c .pair .same-n) (c .pair .same-m) (c .long) (c .fits) (λ e. d (e ∙ sym (tree-leaves-file l)))))
       where
         go : {r : Built} → Comes file tree (length ws) (length out) r → returned r .number ≡ 26 → Comparable file tree (length ws) (length out) × (tree ≢ own)
         go (refuses why some other) z = absurd (other z)
@@ -277,8 +277,8 @@ module _ {file tree : List ℕ} {ws : List ℤ} {out : List ℕ} {r : Built} {ws
         go (whole c d) z = absurd (omega arith)
 
     -- And the first's is taken, exactly there.
-    pub taken-exactly : returned r .number ≡ 0 ↔ (Comparable file tree (length ws) (length out) × (tree ≡ own))
-    taken-exactly = (go came, λ (c, e). ap (λ (r : Built). returned r .number) (x .answers ∙ halves.own-file file tree (c .pair .accepted .taken) (c .pair .accepted .passes) (c .pair .same-n) (c .pair .same-m) (c .long) (c .fits) (e ∙ tree-leaves-file l)))
+    pub own-tree-exactly : returned r .number ≡ 0 ↔ (Comparable file tree (length ws) (length out) × (tree ≡ own))
+    own-tree-exactly = (go came, λ (c, e). ap (λ (r : Built). returned r .number) (x .answers ∙ halves.own-file file tree (c .pair .accepted .taken) (c .pair .accepted .passes) (c .pair .same-n) (c .pair .same-m) (c .long) (c .fits) (e ∙ tree-leaves-file l)))
       where
         go : {r : Built} → Comes file tree (length ws) (length out) r → returned r .number ≡ 0 → Comparable file tree (length ws) (length out) × (tree ≡ own)
         go (refuses why some other) z = absurd (omega arith)
