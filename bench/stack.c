@@ -1,7 +1,7 @@
 // The most stack that the operations use over the matrices of cases.h, the heavy ones with multiplicities too, a split's group being all taxa, and over
 // source trees as deep as may be, of as many names and as long ones as may be.
-// Build and split are measured in a library where both call the search's `divide`, and in one that has no other operation: there the compiler puts it into its only caller. Tree and flips
-// are measured in the first.
+// Build and split are measured in a library where both call the search's `divide`, and in one that has no other operation: there the compiler puts it into
+// its only caller. Tree and flips are measured in the first.
 // Ends with 1 where one uses more than document 02's C-16 allows a build and a split, or include/flipcut.h any other.
 //   stack FOLDER   also writes the matrices there, as files
 #define _GNU_SOURCE

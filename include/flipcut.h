@@ -12,11 +12,11 @@
  * kept after a call, and nothing is written but what is said to be. What is
  * written must not overlap anything else that the same call is given.
  *
- * Stack: a call of the build takes 37,680 bytes at most, of the tree 0[FILL-IN],
- * of the flips 0[FILL-IN], of the split 12,256, of the reading 9,384, of the
- * writing 8,024, of the score 3,352, of the check 120.
- * Measured on x86-64 for 64 taxa and 256 columns, the most there can be; every
- * release keeps below three times 40 KiB, three times 12, 4 and 1.
+ * Stack: a call of the build takes 39,328 bytes at most, of the tree 39,392, of
+ * the flips 40,496, of the split 12,256, of the reading 9,384, of the writing
+ * 8,024, of the score 3,352, of the check 120. Measured on x86-64 for 64 taxa
+ * and 256 columns, the most there can be; every release keeps below 40 KiB for
+ * the first three, 12 for the next three, 4 for the score and 1 for the check.
  */
 #ifndef FLIPCUT_H
 #define FLIPCUT_H

@@ -1,8 +1,8 @@
 -- The packed numbers that C gets, one of 64 bits for each call. Bit 63 says whether the call was refused. If it was, bits 0 to 7 are the refusal's number
--- and bits 8 to 62 its place. If not: of the check, n is in bits 0 to 15 and m in bits 16 to 31; of the build, the tree and the flips, the total is in bits 0 to 31 and the length
--- written in bits 32 to 62, where every writing has it; of the score, lowers are in bits 0 to 30 and raises in bits 31 to 61. Of source trees the matrix file's
--- length is in bits 32 to 62 and the name list's in bits 0 to 31; of the check of a name list, bits 0 to 62 are how many names there are. What the split and
--- the reading of an answer find does not fit, and is put into numbers that are lent for it.
+-- and bits 8 to 62 its place. If not: of the check, n is in bits 0 to 15 and m in bits 16 to 31; of the build, the tree and the flips, the total is in bits 0
+-- to 31 and the length written in bits 32 to 62, where every writing has it; of the score, lowers are in bits 0 to 30 and raises in bits 31 to 61. Of source
+-- trees the matrix file's length is in bits 32 to 62 and the name list's in bits 0 to 31; of the check of a name list, bits 0 to 62 are how many names there
+-- are. What the split and the reading of an answer find does not fit, and is put into numbers that are lent for it.
 use mathlib.Core.Path.{_≡_}
 use mathlib.Core.List.{List}
 use Prim.Native.Nat.{ℕ, zero, suc, _+_, _-_, _*_, _^_, min}

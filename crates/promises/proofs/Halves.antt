@@ -1,6 +1,6 @@
 -- C-18, of what people hold: the tree file has the groups and costs of the answer and no flips (`same-groups`), and reading takes it (`tree-read`); the flips
 -- of it are the build, in every number and buffer (`flips-are-the-build`); any other file is refused with 26, exactly where nothing else refuses
--- (`other-tree-exactly`), and this one is taken (`own-tree-exactly`). And of both operations what demands 1 and 2 say of each: what a refusal leaves, 26 alone with a
+-- (`other-tree-exactly`), and this one is taken (`own-tree-exactly`). And what demands 1 and 2 say of each operation: what a refusal leaves, 26 alone with a
 -- workspace as after success (`refused-tree`, `refused-flips`, `flips-workspace`), and that two results coincide.
 use mathlib.Core.Path.{_≡_, refl, sym, ap, subst, _∙_}
 use mathlib.Core.Bool.{Bool, true, false, _&&_, cond, true≢false}
@@ -33,7 +33,8 @@ use Rattle.split.specs.Columns.{matrixIn}
 use Rattle.tree.specs.declared.Built.{Built}
 use Rattle.tree.specs.declared.Built.the-variants.{Taken, Refused}
 use Rattle.tree.specs.Lists as lists
-use Rattle.tree.specs.Build.{treeFor, contentFor, withFlips, treeRoom, roomFor, written, takenOf, built, outputAfter, workspaceAfter, Returned, returned, Builds}
+use Rattle.tree.specs.Build.{treeFor, contentFor, withFlips, treeRoom, roomFor, written}
+use Rattle.tree.specs.Build.{takenOf, built, outputAfter, workspaceAfter, Returned, returned, Builds}
 use Rattle.tree.specs.Tree.{treeAnswered, treeGiven, treeOutput, GivesTree}
 use Rattle.tree.specs.Flips.{treeFile, agreed, afterTree, flipsAnswered, flipsGiven, flipsWorkspace, GivesFlips}
 use Rattle.tree.proofs.Rules.{answer-of-tree}
@@ -82,24 +83,28 @@ tree-succeeds x = go (grew x)
     go (refuses why some) = (λ z. absurd (omega arith), λ (size, sum, t). absurd (let z : _≡_ {A = ℕ} 0 1 = cc in omega arith))
     go {file} (gives n m t long) = (λ z. (_, _, refl), λ t. refl)
 
-pub refused-tree : {file : List ℕ} {ws : List ℤ} {out : List ℕ} {r : Built} {ws′ : List ℤ} {out′ : List ℕ} → GivesTree file ws out r ws′ out′ → returned r .number ≢ 0
+pub refused-tree : {file : List ℕ} {ws : List ℤ} {out : List ℕ} {r : Built} {ws′ : List ℤ} {out′ : List ℕ} → GivesTree file ws out r ws′ out′
+    → returned r .number ≢ 0
     → (returned r .size ≡ 0) × (returned r .sum ≡ 0) × (ws′ ≡ ws) × (out′ ≡ out)
 unfolding treeOutput workspaceAfter
 refused-tree {r = Taken size sum} x some = absurd (some refl)
 refused-tree {r = Refused why} x some = (refl, refl, x .workspace, x .output)
 
 -- After success the workspace has zeros, one for each 1 of the matrix.
-pub tree-workspace : {file : List ℕ} {ws : List ℤ} {out : List ℕ} {r : Built} {ws′ : List ℤ} {out′ : List ℕ} → GivesTree file ws out r ws′ out′ → returned r .number ≡ 0
+pub tree-workspace : {file : List ℕ} {ws : List ℤ} {out : List ℕ} {r : Built} {ws′ : List ℤ} {out′ : List ℕ} → GivesTree file ws out r ws′ out′
+    → returned r .number ≡ 0
     → OneForEach1 (matrixIn file) ws ws′
 unfolding workspaceAfter
 tree-workspace x none = go (grew x) none (x .workspace)
   where
-    go : {file : List ℕ} {ws : List ℤ} {room : ℕ} {r : Built} {ws′ : List ℤ} → Grows file (length ws) room r → returned r .number ≡ 0 → ws′ ≡ workspaceAfter file r ws
+    go : {file : List ℕ} {ws : List ℤ} {room : ℕ} {r : Built} {ws′ : List ℤ} → Grows file (length ws) room r → returned r .number ≡ 0
+        → ws′ ≡ workspaceAfter file r ws
         → OneForEach1 (matrixIn file) ws ws′
     go (refuses why some) z e = absurd (omega arith)
     go {file} {ws} (gives n m t long) z e = rw e (one-for-each (matrixIn file) ws long)
 
-pub one-tree : {file out : List ℕ} {ws : List ℤ} {r r′ : Built} {ws′ ws″ : List ℤ} {out′ out″ : List ℕ} → GivesTree file ws out r ws′ out′ → GivesTree file ws out r′ ws″ out″
+pub one-tree : {file out : List ℕ} {ws : List ℤ} {r r′ : Built} {ws′ ws″ : List ℤ} {out′ out″ : List ℕ} → GivesTree file ws out r ws′ out′
+    → GivesTree file ws out r′ ws″ out″
     → (r ≡ r′) × (ws′ ≡ ws″) × (out′ ≡ out″)
 one-tree {file} {out} {ws} x y =
     let same = x .answers ∙ sym (y .answers) in (
@@ -145,12 +150,14 @@ module _ {file tree : List ℕ} (l : LeavesTree file tree) where
   tree-read f = (_, tree-passes f (it .taken) ∙ ap fileTests (sym tree-leaves-file))
 
   -- It has the groups, with their costs, and the total of the answer that the build leaves, and no flips.
-  pub same-groups : {answerFile : List ℕ} → File file → Leaves file answerFile → (groupsIn tree ≡ groupsIn answerFile) × (totalIn tree ≡ totalIn answerFile) × (flipsIn tree ≡ [])
+  pub same-groups : {answerFile : List ℕ} → File file → Leaves file answerFile
+      → (groupsIn tree ≡ groupsIn answerFile) × (totalIn tree ≡ totalIn answerFile) × (flipsIn tree ≡ [])
   unfolding treeFor contentFor lists.firstFlips
   same-groups f b =
       let mine = ap contentIn tree-leaves-file ∙ tree-content f (it .taken) in
       let whole = answer-content f b in (
-        ap (λ (c : Content). lists.firstGroups (c .taxa) (c .costs) (c .groups)) mine ∙ sym (ap (λ (c : Content). lists.firstGroups (c .taxa) (c .costs) (c .groups)) whole),
+        ap (λ (c : Content). lists.firstGroups (c .taxa) (c .costs) (c .groups)) mine
+            ∙ sym (ap (λ (c : Content). lists.firstGroups (c .taxa) (c .costs) (c .groups)) whole),
         ap (λ (c : Content). c .total) mine ∙ sym (ap (λ (c : Content). c .total) whole),
         ap (λ (c : Content). lists.firstFlips (c .columns) (c .raised) (c .lowered) (c .flips)) mine,
       )
@@ -163,7 +170,8 @@ module _ {file tree : List ℕ} (l : LeavesTree file tree) where
       leaves-file b ∙ ap fileOf (answer-of-tree M ∙ ap (withFlips (treeFor M)) (sym (flips-are f b) ∙ none)) ∙ sym tree-leaves-file
 
 -- There is such a file for each that the check takes, given enough of what is lent.
-pub tree-leaves : {file : List ℕ} {n m : ℕ} → checks.Taken n m ≡ checked file → (ws : List ℤ) (out : List ℕ) → oneEntries (matrixIn file) ≤ length ws → treeRoom n ≤ length out
+pub tree-leaves : {file : List ℕ} {n m : ℕ} → checks.Taken n m ≡ checked file → (ws : List ℤ) (out : List ℕ) → oneEntries (matrixIn file) ≤ length ws
+    → treeRoom n ≤ length out
     → LeavesTree file (treeFile file)
 unfolding treeGiven treeAnswered treeOutput
 tree-leaves {file} {n} {m} taken ws out l k =
@@ -195,12 +203,14 @@ comes : (file tree : List ℕ) (space room : ℕ) → Comes file tree space room
 unfolding flipsGiven flipsAnswered agreed
 comes file tree space room = go (checked file) refl
   where
-    compared : Comparable file tree space room → (d : Bool) → equal tree (treeFile file) ≡ d → Comes file tree space room (cond d (takenOf file) (Refused (refused 26 0)))
+    compared : Comparable file tree space room → (d : Bool) → equal tree (treeFile file) ≡ d
+        → Comes file tree space room (cond d (takenOf file) (Refused (refused 26 0)))
     compared c true e = whole c e
     compared c false e = differs c e
 
     tested : (p : AcceptedPair file tree) (a b : Bool) → ltb space (oneEntries (matrixIn file)) ≡ a → ltb room (roomFor (p .n) (p .m)) ≡ b
-        → Comes file tree space room (cond a (Refused (refused 9 0)) (cond b (Refused (refused 10 0)) (cond (equal tree (treeFile file)) (takenOf file) (Refused (refused 26 0)))))
+        → Comes file tree space room
+        (cond a (Refused (refused 9 0)) (cond b (Refused (refused 10 0)) (cond (equal tree (treeFile file)) (takenOf file) (Refused (refused 26 0)))))
     tested p true b e e′ = refuses (refused 9 0) (omega arith) (λ z. omega arith)
     tested p false true e e′ = refuses (refused 10 0) (omega arith) (λ z. omega arith)
     tested p false false e e′ =
@@ -208,7 +218,8 @@ comes file tree space room = go (checked file) refl
         let fits = ltb-false room (roomFor (p .n) (p .m)) e′ in
         compared (record { pair = p; long = omega arith; fits = omega arith }) (equal tree (treeFile file)) refl
 
-    alike : (n m : ℕ) → checks.Taken n m ≡ checked file → (here : Cursor) → passed.At here ≡ fileTests tree → (a : Bool) → (eqb (contentIn tree .n) n && eqb (contentIn tree .m) m) ≡ a
+    alike : (n m : ℕ) → checks.Taken n m ≡ checked file → (here : Cursor) → passed.At here ≡ fileTests tree → (a : Bool)
+        → (eqb (contentIn tree .n) n && eqb (contentIn tree .m) m) ≡ a
         → Comes file tree space room (cond a
         (cond (ltb space (oneEntries (matrixIn file))) (Refused (refused 9 0))
         (cond (ltb room (roomFor n m)) (Refused (refused 10 0)) (cond (equal tree (treeFile file)) (takenOf file) (Refused (refused 26 0)))))
@@ -254,7 +265,8 @@ module _ {file tree : List ℕ} {ws : List ℤ} {out : List ℕ} {r : Built} {ws
   unfolding flipsWorkspace
   flips-workspace either = go came either (x .workspace)
     where
-      go : {r : Built} → Comes file tree (length ws) (length out) r → (returned r .number ≡ 0) ⊎ (returned r .number ≡ 26) → ws′ ≡ flipsWorkspace file r ws → OneForEach1 (matrixIn file) ws ws′
+      go : {r : Built} → Comes file tree (length ws) (length out) r → (returned r .number ≡ 0) ⊎ (returned r .number ≡ 26) → ws′ ≡ flipsWorkspace file r ws
+          → OneForEach1 (matrixIn file) ws ws′
       go (refuses why some other) e w = absurd (⊎-elim (λ z. omega arith) other e)
       go (differs c d) e w = rw w (one-for-each (matrixIn file) ws (c .long))
       go (whole c d) e w = rw w (one-for-each (matrixIn file) ws (c .long))
@@ -269,7 +281,12 @@ module _ {file tree : List ℕ} {ws : List ℤ} {out : List ℕ} {r : Built} {ws
 
     -- "26 where that file is not the first's": exactly there, if nothing else refuses.
     pub other-tree-exactly : returned r .number ≡ 26 ↔ (Comparable file tree (length ws) (length out) × (tree ≢ own))
-    other-tree-exactly = (go came, λ (c, d). ap (λ (r : Built). returned r .number) (x .answers ∙ halves.other-file file tree (c .pair .accepted .taken) (c .pair .accepted .passes) (c .pair .same-n) (c .pair .same-m) (c .long) (c .fits) (λ e. d (e ∙ sym (tree-leaves-file l)))))
+    other-tree-exactly = (
+      go came,
+      λ (c, d). ap (λ (r : Built). returned r .number)
+          (x .answers ∙ halves.other-file file tree (c .pair .accepted .taken) (c .pair .accepted .passes) (c .pair .same-n) (c .pair .same-m) (c .long)
+          (c .fits) (λ e. d (e ∙ sym (tree-leaves-file l)))),
+    )
       where
         go : {r : Built} → Comes file tree (length ws) (length out) r → returned r .number ≡ 26 → Comparable file tree (length ws) (length out) × (tree ≢ own)
         go (refuses why some other) z = absurd (other z)
@@ -278,7 +295,12 @@ module _ {file tree : List ℕ} {ws : List ℤ} {out : List ℕ} {r : Built} {ws
 
     -- And the first's is taken, exactly there.
     pub own-tree-exactly : returned r .number ≡ 0 ↔ (Comparable file tree (length ws) (length out) × (tree ≡ own))
-    own-tree-exactly = (go came, λ (c, e). ap (λ (r : Built). returned r .number) (x .answers ∙ halves.own-file file tree (c .pair .accepted .taken) (c .pair .accepted .passes) (c .pair .same-n) (c .pair .same-m) (c .long) (c .fits) (e ∙ tree-leaves-file l)))
+    own-tree-exactly = (
+      go came,
+      λ (c, e). ap (λ (r : Built). returned r .number)
+          (x .answers ∙ halves.own-file file tree (c .pair .accepted .taken) (c .pair .accepted .passes) (c .pair .same-n) (c .pair .same-m) (c .long) (c .fits)
+          (e ∙ tree-leaves-file l)),
+    )
       where
         go : {r : Built} → Comes file tree (length ws) (length out) r → returned r .number ≡ 0 → Comparable file tree (length ws) (length out) × (tree ≡ own)
         go (refuses why some other) z = absurd (omega arith)
@@ -303,7 +325,9 @@ unfolding flipsWorkspace workspaceAfter
 flips-are-the-build {file} {tree} {out} {ws} f l x y =
     let same = x .answers ∙ ap (λ (t : List ℕ). flipsGiven file t (length ws) (length out)) (tree-leaves-file l) ∙ flips-of-tree f (length ws) (length out) in (
       same ∙ sym (y .answers),
-      x .workspace ∙ ap (λ (r : Built). flipsWorkspace file r ws) same ∙ left (built file (length ws) (length out)) (build-small file (length ws) (length out)) ∙ sym (y .workspace ∙ ap (λ (r : Built). workspaceAfter file r ws) (y .answers)),
+      x .workspace ∙ ap (λ (r : Built). flipsWorkspace file r ws) same
+          ∙ left (built file (length ws) (length out)) (build-small file (length ws) (length out))
+          ∙ sym (y .workspace ∙ ap (λ (r : Built). workspaceAfter file r ws) (y .answers)),
       x .output ∙ ap (λ (r : Built). outputAfter file r out) (same ∙ sym (y .answers)) ∙ sym (y .output),
     )
   where
@@ -321,7 +345,8 @@ refused-tree-from-c f p some =
     let (size, sum, workspace, output) = refused-tree (p .promised) (λ none. some (same ∙ none)) in
     (workspace, output)
 
-pub refused-flips-from-c : {file tree : List ℕ} → File file → {ws ws′ : List ℤ} {out out′ : List ℕ} {v : ℕ} → GivesFlipsPacked file tree ws out v ws′ out′ → numberIn v ≢ 0
+pub refused-flips-from-c : {file tree : List ℕ} → File file → {ws ws′ : List ℤ} {out out′ : List ℕ} {v : ℕ} → GivesFlipsPacked file tree ws out v ws′ out′
+    → numberIn v ≢ 0
     → (out′ ≡ out) × (numberIn v ≢ 26 → ws′ ≡ ws)
 refused-flips-from-c f p some =
     let same = ap (λ (x : Returned). x .number) (flips-unpack f p ∙ sym (p .promised .numbers)) in

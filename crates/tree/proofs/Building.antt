@@ -41,7 +41,8 @@ use Rattle.tree.specs.Build.{treeWith, withFlips, treeFor, contentFor, t
 use Rattle.tree.proofs.Rules.{answer-lawful, answer-fits, flips-few, answer-of-tree, tree-lawful, tree-fits}
 
 -- The flip list asks for no weight, and for no column past the last.
-same-flips : (m : ℕ) (old new new′ : ℕ → Column) → ((c : ℕ) → c < m → (new c .ones ≡ new′ c .ones) × (new c .zeros ≡ new′ c .zeros)) → flipList m old new ≡ flipList m old new′
+same-flips : (m : ℕ) (old new new′ : ℕ → Column) → ((c : ℕ) → c < m → (new c .ones ≡ new′ c .ones) × (new c .zeros ≡ new′ c .zeros))
+    → flipList m old new ≡ flipList m old new′
 unfolding flipList
 same-flips zero old new new′ same = refl
 same-flips (suc m) old new new′ same =
@@ -49,7 +50,8 @@ same-flips (suc m) old new new′ same =
     rw (same-flips m old new new′ (λ c l. same c (omega arith)), ones, zeros)
 
 -- Columns that were loaded into the first entries of three lists stand in front there.
-pub in-front : (m : ℕ) (cols : ℕ → Column) (ws os zs w o z : List ℕ) → colsOf ws os zs ≡ cols → Parallel ws os zs → length ws ≡ m → InFront m cols (ws ++ w) (os ++ o) (zs ++ z)
+pub in-front : (m : ℕ) (cols : ℕ → Column) (ws os zs w o z : List ℕ) → colsOf ws os zs ≡ cols → Parallel ws os zs → length ws ≡ m
+    → InFront m cols (ws ++ w) (os ++ o) (zs ++ z)
 in-front m cols ws os zs w o z is p sized =
     let first = take-at ws w m sized in
     let second = take-at os o m (p .ones ∙ sized) in
@@ -76,7 +78,8 @@ module _ {file : List ℕ} {n m space : ℕ} (f : File file) (b : Growable file 
   unfolding oneEntries
   few-arcs ws os zs e c = rw (e, c, taken-count f (b .taken)) (arcs-ones m file-columns (all n))
 
-  grow-ready : {ws P os zs : List ℕ} {needed : ℕ} {clear : List ℤ} (before : List ℤ) → Parallel ws os zs → colsOf ws os zs ≡ file-columns → multiplicityIn P ≡ file-multiplicities → Tabled P
+  grow-ready : {ws P os zs : List ℕ} {needed : ℕ} {clear : List ℤ} (before : List ℤ) → Parallel ws os zs → colsOf ws os zs ≡ file-columns
+      → multiplicityIn P ≡ file-multiplicities → Tabled P
       → length ws ≡ m → needed ≡ oneEntries M → clear ≡ cleared needed before → length before ≡ space → Ready ws P os zs (all n) n clear
   grow-ready {ws} {os = os} {zs} before p is u t e k c l =
       record {
@@ -97,7 +100,8 @@ module _ {file : List ℕ} {n m space : ℕ} (f : File file) (b : Growable file 
       let size = count-all 64 n few in
       omega (arith, build-length 64 μ m cols (all n) (all-fits 64 few) (omega (arith, ok .some, taken-known f (b .taken))))
 
-  grow-room : (ws P os zs : List ℕ) {ts cs : List ℕ} → length ws ≡ m → length ts ≡ 63 → length cs ≡ 63 → Room (length (walkFrom ws P os zs (all n) .groups)) ts cs
+  grow-room : (ws P os zs : List ℕ) {ts cs : List ℕ} → length ws ≡ m → length ts ≡ 63 → length cs ≡ 63
+      → Room (length (walkFrom ws P os zs (all n) .groups)) ts cs
   grow-room ws P os zs e t c = rw e (let few = few-groups (multiplicityIn P) (colsOf ws os zs) in record { taxa-room = omega arith; costs-room = omega arith })
 
   module _ (ws P os zs : List ℕ) (p : InFront m file-columns ws os zs) where
@@ -111,13 +115,16 @@ module _ {file : List ℕ} {n m space : ℕ} (f : File file) (b : Growable file 
         → needed ≡ oneEntries M → clear ≡ cleared needed before → length before ≡ space → Ready lent P (entriesFor lent os) (entriesFor lent zs) (all n) n clear
     lent-ready u t before k c l = rw (p .sized) (grow-ready before (p .parallel) (p .columns) u t (p .sized) k c l)
 
-    pub lent-room : {ts cs : List ℕ} → length ts ≡ 63 → length cs ≡ 63 → Room (length (walkFrom lent P (entriesFor lent os) (entriesFor lent zs) (all n) .groups)) ts cs
+    pub lent-room : {ts cs : List ℕ} → length ts ≡ 63 → length cs ≡ 63
+        → Room (length (walkFrom lent P (entriesFor lent os) (entriesFor lent zs) (all n) .groups)) ts cs
     lent-room t c = grow-room lent P _ _ (p .sized) t c
 
   -- ---- what it comes to
 
-  module _ (ws P os zs os′ zs′ ts cs ts′ cs′ : List ℕ) {clear clear′ : List ℤ} (k : ℕ) (same : multiplicityIn P ≡ file-multiplicities) (start : colsOf ws (entriesFor ws os) (entriesFor ws zs) ≡ file-columns) (sized : length ws ≡ m)
-      (g : Grown ws (entriesFor ws os′) (entriesFor ws zs′) clear clear′ (walkFrom ws P (entriesFor ws os) (entriesFor ws zs) (all n)) (firstGroups ts cs 0) (firstGroups ts′ cs′ k) 0 k) where
+  module _ (ws P os zs os′ zs′ ts cs ts′ cs′ : List ℕ) {clear clear′ : List ℤ} (k : ℕ) (same : multiplicityIn P ≡ file-multiplicities)
+      (start : colsOf ws (entriesFor ws os) (entriesFor ws zs) ≡ file-columns) (sized : length ws ≡ m)
+      (g : Grown ws (entriesFor ws os′) (entriesFor ws zs′) clear clear′ (walkFrom ws P (entriesFor ws os) (entriesFor ws zs) (all n))
+      (firstGroups ts cs 0) (firstGroups ts′ cs′ k) 0 k) where
     walked-groups : firstGroups ts′ cs′ k ≡ build 64 file-multiplicities (length (M .columns)) file-columns (all (M .taxa)) .groups
     unfolding firstGroups
     walked-groups = g .groups ∙ rw (same, start, sized, taken-count f (b .taken), taken-known f (b .taken))
@@ -148,7 +155,8 @@ module _ {file : List ℕ} {n m space : ℕ} (f : File file) (b : Growable file 
         }
 
     -- So the tree has grown.
-    pub has-grown : {a : Answer} → LentLists os′ zs′ ts′ cs′ → (treeOf a ≡ treeWith n m (ordered 64 n (firstGroups ts′ cs′ k))) × (a .flips ≡ 0) → Grew file a os′ zs′
+    pub has-grown : {a : Answer} → LentLists os′ zs′ ts′ cs′ → (treeOf a ≡ treeWith n m (ordered 64 n (firstGroups ts′ cs′ k))) × (a .flips ≡ 0)
+        → Grew file a os′ zs′
     has-grown {a} h (e, none) =
         let many : a .m ≡ m = ap (λ (c : Content). c .m) e in
         record {
@@ -176,7 +184,8 @@ module _ {file : List ℕ} {n m space : ℕ} (f : File file) (b : Growable file 
   tree-written room fits = writes-all (tree-lawful M ok) 0 room (omega arith) (omega (arith, tree-fits M ok, taken-known f (b .taken)))
 
   -- What has grown fits the room for any tree.
-  pub fits-any : {a : Answer} {os zs : List ℕ} → Grew file a os zs → (writing (treeOf a) 0 (treeRoom 64) ≡ written.Length (lengthOf (treeOf a))) × (lengthOf (treeOf a) ≤ treeRoom 64)
+  pub fits-any : {a : Answer} {os zs : List ℕ} → Grew file a os zs
+      → (writing (treeOf a) 0 (treeRoom 64) ≡ written.Length (lengthOf (treeOf a))) × (lengthOf (treeOf a) ≤ treeRoom 64)
   fits-any g =
       let few = few-taxa f (b .taken) in
       subst (λ (c : Content). (writing c 0 (treeRoom 64) ≡ written.Length (lengthOf c)) × (lengthOf c ≤ treeRoom 64)) (sym (g .tree))
@@ -188,11 +197,13 @@ module _ {file : List ℕ} {n m space : ℕ} (f : File file) (b : Growable file 
       (omega (arith, answer-fits M ok, taken-count f (b .taken), taken-known f (b .taken)))
 
 -- What has grown, with its flips, is the method's answer.
-pub whole-is : {file os zs : List ℕ} {a : Answer} → Grew file a os zs → withFlips (treeOf a) (flipList (a .m) (column (matrixIn file .columns)) (unweighed os zs)) ≡ contentFor (matrixIn file)
+pub whole-is : {file os zs : List ℕ} {a : Answer} → Grew file a os zs
+    → withFlips (treeOf a) (flipList (a .m) (column (matrixIn file .columns)) (unweighed os zs)) ≡ contentFor (matrixIn file)
 whole-is {file} g = (λ i. withFlips (g .tree i) (g .flips i)) ∙ sym (answer-of-tree (matrixIn file))
 
 -- What is written so is answered, and the output holds it.
-pub answers-all : {c c′ : Content} {entries : ℕ} {out out′ : List ℕ} {r : Built} → Answers c′ entries out r out′ → c′ ≡ c → writing c entries (length out) ≡ written.Length (lengthOf c)
+pub answers-all : {c c′ : Content} {entries : ℕ} {out out′ : List ℕ} {r : Built} → Answers c′ entries out r out′ → c′ ≡ c
+    → writing c entries (length out) ≡ written.Length (lengthOf c)
     → (r ≡ specs.written c) × (out′ ≡ over (fileOf c) 0 out)
 answers-all a e w = (rw (e, w) at (a .answers), rw (e, w) at (a .output))
 

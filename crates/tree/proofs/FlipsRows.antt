@@ -74,14 +74,16 @@ module _ (file tree : List ℕ) (n m space room : ℕ) where
         unfolding agreed
         differs-row d = (rw (e, le-ltb _ _ long, le-ltb _ _ fits, d), output-left file _ out, clear ∙ flips-cleared file ws)
 
-        pub whole-row : equal tree (treeFile file) ≡ true → {r : Built} {out′ : List ℕ} → (r ≡ takenOf file) × (out′ ≡ over (fileOf (contentFor (matrixIn file))) 0 out) → Row r out′ ws′
+        pub whole-row : equal tree (treeFile file) ≡ true → {r : Built} {out′ : List ℕ}
+            → (r ≡ takenOf file) × (out′ ≡ over (fileOf (contentFor (matrixIn file))) 0 out) → Row r out′ ws′
         unfolding agreed outputAfter flipsWorkspace
         whole-row same (is, output) = (is ∙ rw (e, le-ltb _ _ long, le-ltb _ _ fits, same), holds (contentFor (matrixIn file)) out is output, rw is clear)
 
 -- ---- the operation
 
 module _ (file tree : List ℕ) (ws : List ℤ) (out : List ℕ) where
-  all-of : {r : Built} {ws′ : List ℤ} {out′ : List ℕ} → (r ≡ flipsGiven file tree (length ws) (length out)) × (out′ ≡ outputAfter file r out) × (ws′ ≡ flipsWorkspace file r ws)
+  all-of : {r : Built} {ws′ : List ℤ} {out′ : List ℕ}
+      → (r ≡ flipsGiven file tree (length ws) (length out)) × (out′ ≡ outputAfter file r out) × (ws′ ≡ flipsWorkspace file r ws)
       → GivesFlips file tree ws out r ws′ out′
   all-of (is, output, clear) = record { answers = is; numbers = ap returned is; output = output; workspace = clear }
 
@@ -97,6 +99,7 @@ module _ (file tree : List ℕ) (ws : List ℤ) (out : List ℕ) where
         all-of (rw (← taken, ← e), output-left file why out, flips-left file why ws (λ d. omega arith))
 
     pub both-read : {here : Cursor} {r : Built} {ws′ : List ℤ} {out′ : List ℕ} → passed.At here ≡ fileTests tree
-        → (r ≡ agreed file tree n m (length ws) (length out)) × (out′ ≡ outputAfter file r out) × (ws′ ≡ flipsWorkspace file r ws) → GivesFlips file tree ws out r ws′ out′
+        → (r ≡ agreed file tree n m (length ws) (length out)) × (out′ ≡ outputAfter file r out) × (ws′ ≡ flipsWorkspace file r ws)
+        → GivesFlips file tree ws out r ws′ out′
     unfolding flipsGiven flipsAnswered
     both-read e (is, output, clear) = all-of (rw (← taken, ← e) is, output, clear)

@@ -86,6 +86,7 @@ build-is-both {file} f space room = go (checked file) refl
     go (checks.Refused why) e = rw (← e)
     go (checks.Taken n m) e = rw (le-ltb (treeRoom 64) (treeRoom n) (omega (arith, few-taxa f e))) (tested (ltb space (oneEntries (matrixIn file))) refl)
       where
-        tested : (a : Bool) → ltb space (oneEntries (matrixIn file)) ≡ a → thenFlips file space room (cond a (Refused (refused 9 0)) (written (treeFor (matrixIn file)))) ≡ built file space room
+        tested : (a : Bool) → ltb space (oneEntries (matrixIn file)) ≡ a
+            → thenFlips file space room (cond a (Refused (refused 9 0)) (written (treeFor (matrixIn file)))) ≡ built file space room
         tested true h = rw (← e, h)
         tested false h = flips-of-tree f space room

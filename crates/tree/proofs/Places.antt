@@ -35,9 +35,11 @@ Small last file (Taken size sum) = File file → (size ≤ largest) × (sum < 2 
 Small last file (Refused why) = (why .place ≤ largest) × (why .number ≤ last)
 
 -- What is lent adds the numbers 9 and 10.
-enough-small : (last : ℕ) (file : List ℕ) (space wanted room : ℕ) (r : Built) → 10 ≤ last → Small last file r → Small last file (ifEnough file space wanted room r)
+enough-small : (last : ℕ) (file : List ℕ) (space wanted room : ℕ) (r : Built) → 10 ≤ last → Small last file r
+    → Small last file (ifEnough file space wanted room r)
 enough-small last file space wanted room r l h =
-    either-way (Small last file) (ltb space (oneEntries (matrixIn file))) (lit≤ tt, omega arith) (either-way (Small last file) (ltb room wanted) (lit≤ tt, omega arith) h)
+    either-way (Small last file) (ltb space (oneEntries (matrixIn file))) (lit≤ tt, omega arith)
+    (either-way (Small last file) (ltb room wanted) (lit≤ tt, omega arith) h)
 
 whole-small : (last : ℕ) (file : List ℕ) {n m : ℕ} → checks.Taken n m ≡ checked file → Small last file (takenOf file)
 unfolding contentFor answer

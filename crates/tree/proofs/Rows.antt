@@ -21,7 +21,8 @@ use Rattle.split.specs.Columns.{matrixIn}
 use Rattle.tree.specs.declared.Built.{Built}
 use Rattle.tree.specs.declared.Built.the-variants.{Refused}
 use Rattle.tree.specs.inner.Grow.{lacking}
-use Rattle.tree.specs.Build.{treeFor, contentFor, treeRoom, roomFor, written, takenOf, ifEnough, answered, built, holding, outputAfter, workspaceAfter, returned, buildNumbers}
+use Rattle.tree.specs.Build.{treeFor, contentFor, treeRoom, roomFor, written, takenOf, ifEnough}
+use Rattle.tree.specs.Build.{answered, built, holding, outputAfter, workspaceAfter, returned, buildNumbers}
 use Rattle.tree.specs.Tree.{treeAnswered, treeGiven, treeOutput, treeNumbers}
 
 -- ---- what is lent
@@ -62,7 +63,8 @@ module _ (file : List ℕ) (space room wanted : ℕ) (r : Built) where
       elim (decLt space needed) [
         | yes l ↦ rw (lt-ltb _ _ l) (ap (λ (x : ℕ). Refused (refused x 0)) (e ∙ short-space space needed room wanted l))
         | no nl ↦ elim (decLt room wanted) [
-          | yes l ↦ rw (le-ltb space needed (omega arith), lt-ltb _ _ l) (ap (λ (x : ℕ). Refused (refused x 0)) (e ∙ short-room space needed room wanted (omega arith) l))
+          | yes l ↦ rw (le-ltb space needed (omega arith), lt-ltb _ _ l)
+              (ap (λ (x : ℕ). Refused (refused x 0)) (e ∙ short-room space needed room wanted (omega arith) l))
           | no nk ↦ absurd (some (e ∙ none-short space needed room wanted (omega arith) (omega arith)))
         ]
       ]
@@ -89,7 +91,8 @@ workspace-left file why ws = refl
 pub holds : (c : Content) (out : List ℕ) {r : Built} {out′ : List ℕ} → r ≡ written c → out′ ≡ over (fileOf c) 0 out → out′ ≡ holding c r out
 holds c out is e = rw is e
 
-pub clears : (file : List ℕ) (c : Content) (ws : List ℤ) {r : Built} {ws′ : List ℤ} → r ≡ written c → ws′ ≡ cleared (oneEntries (matrixIn file)) ws → ws′ ≡ workspaceAfter file r ws
+pub clears : (file : List ℕ) (c : Content) (ws : List ℤ) {r : Built} {ws′ : List ℤ} → r ≡ written c → ws′ ≡ cleared (oneEntries (matrixIn file)) ws
+    → ws′ ≡ workspaceAfter file r ws
 unfolding workspaceAfter
 clears file c ws is e = rw is e
 

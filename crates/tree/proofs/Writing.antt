@@ -35,7 +35,8 @@ pub tree-only : (a : Answer) → a .flips ≡ 0 → contentOf a [] [] [] ≡ tre
 tree-only a e = λ i. contentOf (record { n = a .n; m = a .m; groups = a .groups; flips = e i; total = a .total; taxa = a .taxa; costs = a .costs }) [] [] []
 
 pub whole-held : {ns us ds : List ℕ} {f : ℕ} {fs : List Flips} (a : Answer) → FlipRoom f ns us ds → f ≡ length fs → firstFlips ns us ds f ≡ fs
-    → contentOf (record { n = a .n; m = a .m; groups = a .groups; flips = f; total = a .total; taxa = a .taxa; costs = a .costs }) ns us ds ≡ withFlips (treeOf a) fs
+    → contentOf (record { n = a .n; m = a .m; groups = a .groups; flips = f; total = a .total; taxa = a .taxa; costs = a .costs }) ns us ds
+    ≡ withFlips (treeOf a) fs
 whole-held {ns} {us} {ds} {f} a room many list = λ i. record {
   n = a .n;
   m = a .m;
@@ -50,7 +51,8 @@ whole-held {ns} {us} {ds} {f} a room many list = λ i. record {
 }
 
 -- What writing answers is what the build answers.
-pub answers-as : {c c′ : Content} {entries entries′ : ℕ} {out out′ : List ℕ} {w : Written} {r : Built} → Writes c′ entries′ out w out′ → c′ ≡ c → entries′ ≡ entries → r ≡ writtenAs (c .total) w
+pub answers-as : {c c′ : Content} {entries entries′ : ℕ} {out out′ : List ℕ} {w : Written} {r : Built} → Writes c′ entries′ out w out′ → c′ ≡ c
+    → entries′ ≡ entries → r ≡ writtenAs (c .total) w
     → Answers c entries out r out′
 answers-as {c} {out = out} h e n is =
     let w = rw (e, n) at (h .answers) in

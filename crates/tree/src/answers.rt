@@ -60,7 +60,9 @@ pub fn write_whole(
 ) -> Built
     requires { ⌜ Flipped (now file) (now ones) (now zeros) (tree .m) ⌝ }
     ensures { λ r. ⌜
-        Answers (withFlips (treeOf tree) (flipList (tree .m) (column (matrixIn (now (file .entry)) .columns)) (unweighed (now (ones .entry)) (now (zeros .entry)))))
+        Answers
+        (withFlips (treeOf tree)
+        (flipList (tree .m) (column (matrixIn (now (file .entry)) .columns)) (unweighed (now (ones .entry)) (now (zeros .entry)))))
         256 (now (out .entry)) r (now (out .exit)) ⌝ }
 {
     let mut columns = [0u64; 256];

@@ -37,7 +37,8 @@ fn grow_all(
     ensures { λ r. ⌜
         Grown (now (weights .entry)) (entriesFor (now (weights .entry)) (now (ones .exit))) (entriesFor (now (weights .entry)) (now (zeros .exit)))
         (now (workspace .entry)) (now (workspace .exit))
-        (walkFrom (now (weights .entry)) (now (planes .entry)) (entriesFor (now (weights .entry)) (now (ones .entry))) (entriesFor (now (weights .entry)) (now (zeros .entry))) (all n))
+        (walkFrom (now (weights .entry)) (now (planes .entry)) (entriesFor (now (weights .entry)) (now (ones .entry)))
+        (entriesFor (now (weights .entry)) (now (zeros .entry))) (all n))
         (firstGroups (now (walked .entry)) (now (paid .entry)) 0) (firstGroups (now (walked .exit)) (now (paid .exit)) r) 0 r
         × LentLists (now (ones .exit)) (now (zeros .exit)) (now (walked .exit)) (now (paid .exit)) ⌝ }
 {

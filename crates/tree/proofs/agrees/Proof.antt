@@ -7,7 +7,9 @@ use Rattle.tree.proofs.agrees.Statement.{statement}
 use Rattle.tree.proofs.agrees.Tie as tie
 
 returns : tie.Need-returns
-returns c = let args = c .before .before .before .args in rw (ne-eqb (numberAt 2 (args .tree .now) 4) (args .n) (λ e. c .if1 .taken (c .before .u16-at .ensures ∙ e)))
+returns c =
+    let args = c .before .before .before .args in
+    rw (ne-eqb (numberAt 2 (args .tree .now) 4) (args .n) (λ e. c .if1 .taken (c .before .u16-at .ensures ∙ e)))
 
 returns-2 : tie.Need-returns-2
 returns-2 c =

@@ -25,9 +25,13 @@ begun c = c .before .before .before .before .before
 
 lack-is : (c : tie.After-lack) → let a = begun c .args in
     c .lack .result ≡ lacking (length (a .workspace .now)) (oneEntries (matrixIn (a .file .now))) (length (a .out .now)) (roomFor (a .n) (a .m))
-lack-is c = let a = begun c .args in c .lack .ensures ∙ (λ i. lacking (length (a .workspace .now)) (c .before .before .one-entries .ensures i) (length (a .out .now)) (c .before .answer-room .ensures i))
+lack-is c =
+    let a = begun c .args in
+    c .lack .ensures ∙ (λ i. lacking (length (a .workspace .now)) (c .before .before .one-entries .ensures i) (length (a .out .now))
+    (c .before .answer-room .ensures i))
 
-lent : (c : tie.Else1) → let a = begun (c .before) .args in (oneEntries (matrixIn (a .file .now)) ≤ length (a .workspace .now)) × (roomFor (a .n) (a .m) ≤ length (a .out .now))
+lent : (c : tie.Else1)
+    → let a = begun (c .before) .args in (oneEntries (matrixIn (a .file .now)) ≤ length (a .workspace .now)) × (roomFor (a .n) (a .m) ≤ length (a .out .now))
 lent c = enough _ _ _ _ (omega (arith, lack-is (c .before), c .if1 .left))
 
 growable : (c : tie.Else1) → let a = begun (c .before) .args in Growable (a .file .now) (a .n) (a .m) (length (a .workspace .now))
@@ -57,7 +61,8 @@ returns-2 c =
     let at = grown .before .before .before .before in
     let f = bytes (at .before .before .before .before .before) in
     let (long, fits) = lent at in
-    build-row _ _ _ _ _ _ _ long (grown .grow-tree .ensures .1) fits (answers-all (wrote .write-whole .ensures) (whole-is (grown .grow-tree .ensures .0)) (whole-written f (growable at) _ fits))
+    build-row _ _ _ _ _ _ _ long (grown .grow-tree .ensures .1) fits
+    (answers-all (wrote .write-whole .ensures) (whole-is (grown .grow-tree .ensures .0)) (whole-written f (growable at) _ fits))
 
 pub build-taken-spec : {M : Type 1} → statement M
 build-taken-spec =

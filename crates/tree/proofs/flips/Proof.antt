@@ -12,18 +12,21 @@ use Rattle.tree.proofs.flips.Statement.{statement}
 use Rattle.tree.proofs.flips.Tie as tie
 
 -- The matrix was taken.
-checks : (c : tie.After-answer2) → Taken (c .answer2 .given .0 .0) (c .answer2 .given .0 .1 .0) ≡ checked (c .before .before .before .before .before .before .args .file .now)
+checks : (c : tie.After-answer2)
+    → Taken (c .answer2 .given .0 .0) (c .answer2 .given .0 .1 .0) ≡ checked (c .before .before .before .before .before .before .args .file .now)
 checks c = sym (c .answer2 .given .1) ∙ c .before .before .check .ensures .answers
 
 -- And so was the tree file.
-passes : (c : tie.After-enum-told) → At (c .enum-told .given .0 .0) ≡ fileTests (c .before .before .before .before .before .before .before .before .before .before .args .tree .now)
+passes : (c : tie.After-enum-told)
+    → At (c .enum-told .given .0 .0) ≡ fileTests (c .before .before .before .before .before .before .before .before .before .before .args .tree .now)
 passes c = sym (c .enum-told .given .1) ∙ c .before .before .pass-file .ensures
 
 returns : tie.Need-returns
 returns c =
     let told = c .before in
     let file = told .before .before in
-    tree-refused _ _ _ _ (checks (file .before .before)) (ap Refused (c .refusal .ensures ∙ ap passedRefusal (told .enum-told2 .given .1)) ∙ sym (told .enum-told2 .given .1) ∙ file .pass-file .ensures)
+    tree-refused _ _ _ _ (checks (file .before .before))
+    (ap Refused (c .refusal .ensures ∙ ap passedRefusal (told .enum-told2 .given .1)) ∙ sym (told .enum-told2 .given .1) ∙ file .pass-file .ensures)
 
 flips-taken-requires : tie.Need-flips-taken-requires
 flips-taken-requires c κs = let told = c .before .before in (checks (told .before .before .before .before), laid _ (passes told) .first-at)

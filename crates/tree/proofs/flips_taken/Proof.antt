@@ -33,14 +33,19 @@ entry c = c .before .before .before
 abbrev begun : tie.After-lack → tie.Start
 begun c = entry (c .before .before .before .before) .before
 
-agree : (c : tie.Else1) → let a = entry (c .before) .before .args in (eqb (contentIn (a .tree .now) .n) (a .n) && eqb (contentIn (a .tree .now) .m) (a .m)) ≡ true
+agree : (c : tie.Else1)
+    → let a = entry (c .before) .before .args in (eqb (contentIn (a .tree .now) .n) (a .n) && eqb (contentIn (a .tree .now) .m) (a .m)) ≡ true
 agree c = sym (c .before .agrees .ensures) ∙ not-false _ (c .if1 .left)
 
 lack-is : (c : tie.After-lack) → let a = begun c .args in
     c .lack .result ≡ lacking (length (a .workspace .now)) (oneEntries (matrixIn (a .file .now))) (length (a .out .now)) (roomFor (a .n) (a .m))
-lack-is c = let a = begun c .args in c .lack .ensures ∙ (λ i. lacking (length (a .workspace .now)) (c .before .before .one-entries .ensures i) (length (a .out .now)) (c .before .answer-room .ensures i))
+lack-is c =
+    let a = begun c .args in
+    c .lack .ensures ∙ (λ i. lacking (length (a .workspace .now)) (c .before .before .one-entries .ensures i) (length (a .out .now))
+    (c .before .answer-room .ensures i))
 
-lent : (c : tie.Else2) → let a = begun (c .before) .args in (oneEntries (matrixIn (a .file .now)) ≤ length (a .workspace .now)) × (roomFor (a .n) (a .m) ≤ length (a .out .now))
+lent : (c : tie.Else2)
+    → let a = begun (c .before) .args in (oneEntries (matrixIn (a .file .now)) ≤ length (a .workspace .now)) × (roomFor (a .n) (a .m) ≤ length (a .out .now))
 lent c = enough _ _ _ _ (omega (arith, lack-is (c .before), c .if2 .left))
 
 growable : (c : tie.Else2) → let a = begun (c .before) .args in Growable (a .file .now) (a .n) (a .m) (length (a .workspace .now))
@@ -85,7 +90,9 @@ is-tree-requires c κs =
 -- ---- the returns
 
 returns : tie.Need-returns
-returns c = let at = c .before .before in rw (c .refused .ensures) (disagree-row _ _ _ _ _ _ _ _ (sym (at .agrees .ensures) ∙ not-true _ (c .before .if1 .taken)))
+returns c =
+    let at = c .before .before in
+    rw (c .refused .ensures) (disagree-row _ _ _ _ _ _ _ _ (sym (at .agrees .ensures) ∙ not-true _ (c .before .if1 .taken)))
 
 returns-2 : tie.Need-returns-2
 returns-2 c =
@@ -98,7 +105,8 @@ returns-3 c =
     let at = grown asked in
     let (long, fits) = lent (tested at) in
     rw (c .refused3 .ensures)
-    (differs-row _ _ _ _ _ _ _ _ (agree (tested at .before .before .before .before)) long fits (at .grow-tree .ensures .1) (firsts asked ∙ not-true _ (c .before .if3 .taken)))
+    (differs-row _ _ _ _ _ _ _ _ (agree (tested at .before .before .before .before)) long fits (at .grow-tree .ensures .1)
+    (firsts asked ∙ not-true _ (c .before .if3 .taken)))
 
 returns-4 : tie.Need-returns-4
 returns-4 c =
@@ -106,7 +114,8 @@ returns-4 c =
     let same = wrote .before .before .before .before in
     let at = grown (same .before) in
     let (long, fits) = lent (tested at) in
-    whole-row _ _ _ _ _ _ _ _ (agree (tested at .before .before .before .before)) long fits (at .grow-tree .ensures .1) (firsts (same .before) ∙ not-false _ (same .if3 .left))
+    whole-row _ _ _ _ _ _ _ _ (agree (tested at .before .before .before .before)) long fits (at .grow-tree .ensures .1)
+    (firsts (same .before) ∙ not-false _ (same .if3 .left))
     (answers-all (wrote .write-whole .ensures) (whole-is (at .grow-tree .ensures .0)) (whole-written (whole-file at) (growable (tested at)) _ fits))
 
 pub flips-taken-spec : {M : Type 1} → statement M

@@ -35,7 +35,8 @@ returns c =
     let told = c .before .before in
     let at = at-write told in
     let output = answers-all (at .write-tree .ensures) refl (begun at .pre .1) .1 in
-    c .same .ensures ∙ ap (equal (begun at .args .file .now)) (ap (take (told .before .written .given .0 .0)) output ∙ front-is (fileOf (c-of at)) _ _ (length-file (c-of at) ∙ sym (size-is told)))
+    c .same .ensures ∙ ap (equal (begun at .args .file .now))
+    (ap (take (told .before .written .given .0 .0)) output ∙ front-is (fileOf (c-of at)) _ _ (length-file (c-of at) ∙ sym (size-is told)))
 
 returns-2 : tie.Need-returns-2
 returns-2 c =

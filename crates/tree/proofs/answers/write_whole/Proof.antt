@@ -29,8 +29,16 @@ lists-long c =
 
 list-flips-requires : tie.Need-list-flips-requires
 list-flips-requires c κs =
-    let p = c .before .before .before .before .before .before .pre in
-    (p .columns, p .whole, record { columns-room = p .few-columns; raised-room = omega (arith, p .few-columns, p .ones); lowered-room = omega (arith, p .few-columns, p .zeros) })
+    let p = c .before .before .before .before .before .before .pre in (
+      p .columns,
+      p .whole,
+      record {
+        columns-room = p .few-columns;
+        raised-room = omega (arith, p .few-columns, p .ones);
+        lowered-room = omega
+            (arith, p .few-columns, p .zeros);
+      },
+    )
 
 returns : tie.Need-returns
 returns c =

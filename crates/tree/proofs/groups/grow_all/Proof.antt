@@ -20,7 +20,16 @@ grow-requires : tie.Need-grow-requires
 grow-requires c κs =
     let p = begun (given c) .pre in
     rw (given c .all .ensures) (
-      (p .0 .0, omega (arith, count-le 64 (all (begun (given c) .args .n))), p .0 .1, record { joins = refl; limits = refl; offsets = refl; spare = record { counts = refl; tree = refl } }),
+      (
+        p .0 .0,
+        omega (
+          arith,
+          count-le 64
+              (all (begun (given c) .args .n)),
+        ),
+        p .0 .1,
+        record { joins = refl; limits = refl; offsets = refl; spare = record { counts = refl; tree = refl } },
+      ),
       record { taxa-room = omega (arith, p .1 .taxa-room); costs-room = omega (arith, p .1 .costs-room) },
     )
 

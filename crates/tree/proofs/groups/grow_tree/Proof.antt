@@ -47,7 +47,8 @@ load-columns-requires c κs =
     (can-load (bytes at) (begun at .pre .0 .taken) refl, omega arith, omega arith, omega arith)
 
 -- What the planes hold are the file's multiplicities.
-multiplicities : (c : tie.After-load-columns) → multiplicityIn (read c .planes-in .result) ≡ multiplicity (matrixIn (begun (entry c) .args .file .now) .multiplicities)
+multiplicities : (c : tie.After-load-columns)
+    → multiplicityIn (read c .planes-in .result) ≡ multiplicity (matrixIn (begun (entry c) .args .file .now) .multiplicities)
 multiplicities c = read-multiplicities (bytes (entry c)) (begun (entry c) .pre .0 .taken) (read c .planes-in .result) (read c .planes-in .ensures .0)
 
 grow-all-requires : tie.Need-grow-all-requires
@@ -59,7 +60,13 @@ grow-all-requires c κs =
     let front = load .load-columns .ensures in (
       (
         lent-ready f b _ _ _ _ front (multiplicities load) (read load .planes-in .ensures .1) _ counted (clear .clear .ensures) refl,
-        record { ones = omega (arith, load .load-columns .kept .1 .1 .1 .0); zeros = omega (arith, load .load-columns .kept .1 .1 .1 .1 .0); walked = refl; paid = refl },
+        record {
+          ones =
+              omega (arith, load .load-columns .kept .1 .1 .1 .0);
+          zeros = omega (arith, load .load-columns .kept .1 .1 .1 .1 .0);
+          walked = refl;
+          paid = refl;
+        },
       ),
       lent-room f b _ _ _ _ front refl refl,
     )
@@ -72,7 +79,9 @@ in-file-order-requires c κs =
     let load = loaded (cleared walk) in
     let at = entry load in
     let front = load .load-columns .ensures in
-    to-order (bytes at) (begun at .pre .0) _ _ _ _ _ _ _ _ _ _ _ (multiplicities load) (lent-columns (bytes at) (begun at .pre .0) _ (read load .planes-in .result) _ _ front) (front .sized) (walk .grow-all .ensures .0) (walk .grow-all .ensures .1)
+    to-order (bytes at) (begun at .pre .0) _ _ _ _ _ _ _ _ _ _ _ (multiplicities load)
+    (lent-columns (bytes at) (begun at .pre .0) _ (read load .planes-in .result) _ _ front) (front .sized) (walk .grow-all .ensures .0)
+    (walk .grow-all .ensures .1)
 
 returns : tie.Need-returns
 returns c =
@@ -80,7 +89,9 @@ returns c =
     let load = loaded (cleared walk) in
     let at = entry load in
     let front = load .load-columns .ensures in (
-      has-grown (bytes at) (begun at .pre .0) _ _ _ _ _ _ _ _ _ _ _ (multiplicities load) (lent-columns (bytes at) (begun at .pre .0) _ (read load .planes-in .result) _ _ front) (front .sized) (walk .grow-all .ensures .0) (walk .grow-all .ensures .1) (c .in-file-order .ensures),
+      has-grown (bytes at) (begun at .pre .0) _ _ _ _ _ _ _ _ _ _ _ (multiplicities load)
+          (lent-columns (bytes at) (begun at .pre .0) _ (read load .planes-in .result) _ _ front) (front .sized) (walk .grow-all .ensures .0)
+          (walk .grow-all .ensures .1) (c .in-file-order .ensures),
       walk .grow-all .ensures .0 .workspace ∙ rw (← begun at .pre .1) (cleared walk .clear .ensures),
     )
 

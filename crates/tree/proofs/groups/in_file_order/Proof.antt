@@ -16,7 +16,8 @@ abbrev put-in-order : tie.After-sum-costs → tie.After-in-order
 put-in-order c = c .before .before .before .before
 
 -- The sum is the total of the groups in file order.
-sum-is : (c : tie.After-sum-costs) → let a = begun (put-in-order c) .args in c .sum-costs .result ≡ total (ordered 64 (a .n) (firstGroups (a .walked .now) (a .paid .now) (a .k)))
+sum-is : (c : tie.After-sum-costs)
+    → let a = begun (put-in-order c) .args in c .sum-costs .result ≡ total (ordered 64 (a .n) (firstGroups (a .walked .now) (a .paid .now) (a .k)))
 sum-is c = let order = put-in-order c .in-order in c .sum-costs .ensures ∙ sym (total-of _ _ (order .result)) ∙ ap total (order .ensures .1)
 
 sum-costs-requires : tie.Need-sum-costs-requires
@@ -31,7 +32,11 @@ returns c =
     let order = put-in-order c .in-order in
     let start = begun (put-in-order c) in (
       tree-held (start .args .n) (start .args .m) 0
-          (record { taxa-room = omega (arith, start .pre .few, order .ensures .0, order .kept .1 .1 .1 .1 .0); costs-room = omega (arith, start .pre .few, order .ensures .0, order .kept .1 .1 .1 .1 .1 .0) })
+          (record {
+            taxa-room = omega (arith, start .pre .few, order .ensures .0, order .kept .1 .1 .1 .1 .0);
+            costs-room = omega
+                (arith, start .pre .few, order .ensures .0, order .kept .1 .1 .1 .1 .1 .0);
+          })
           (order .ensures .0) (order .ensures .1) (sum-is c),
       refl,
     )

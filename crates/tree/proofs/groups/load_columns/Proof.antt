@@ -16,7 +16,8 @@ returns : tie.Need-returns
 returns c =
     let l = c .before .before .before .before .before .before .load in
     let start = c .before .before .before .before .before .before .before .before .before .before .before .before .before .before in
-    in-front (start .args .m) _ (l .last .1 .0) (l .last .1 .1 .0) (l .last .1 .1 .1 .0) _ _ _ (l .ensures .0) (l .ensures .1) (l .ensures .2 ∙ length-take-le _ _ (start .pre .1))
+    in-front (start .args .m) _ (l .last .1 .0) (l .last .1 .1 .0) (l .last .1 .1 .1 .0) _ _ _ (l .ensures .0) (l .ensures .1)
+    (l .ensures .2 ∙ length-take-le _ _ (start .pre .1))
 
 pub load-columns-spec : {M : Type 1} → statement M
 load-columns-spec =
