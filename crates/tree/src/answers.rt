@@ -12,7 +12,7 @@ ghost use Rattle.answer.specs.Writing.{writing};
 ghost use Rattle.answer.specs.declared.Written.the-variants as written;
 ghost use Rattle.method.specs.Tree.{column, flipList};
 ghost use Rattle.split.specs.Columns.{matrixIn};
-ghost use Rattle.tree.specs.Build.{withFlips};
+ghost use Rattle.tree.specs.Build.{withFlips, treeRoom};
 ghost use Rattle.tree.specs.inner.Lists.{unweighed};
 ghost use Rattle.tree.specs.inner.Grow.{writtenAs, treeOf, Flipped, Answers};
 
@@ -39,7 +39,7 @@ pub fn write_tree(tree: Answer, out: &mut [u8]) -> Built
 
 // Whether a file is, byte for byte, what is so written.
 pub fn is_tree(file: &[u8], tree: Answer) -> bool
-    requires { ⌜ (tree .flips ≡ 0) × (writing (treeOf tree) 0 1028 ≡ written.Length (lengthOf (treeOf tree))) × (lengthOf (treeOf tree) ≤ 1028) ⌝ }
+    requires { ⌜ (tree .flips ≡ 0) × (writing (treeOf tree) 0 (treeRoom 64) ≡ written.Length (lengthOf (treeOf tree))) × (lengthOf (treeOf tree) ≤ treeRoom 64) ⌝ }
     ensures { λ r. ⌜ r ≡ equal (now (file .entry)) (fileOf (treeOf tree)) ⌝ }
 {
     let mut own = [0u8; MOST_TREE];

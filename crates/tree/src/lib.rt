@@ -52,7 +52,7 @@ fn lack(space: usize, needed: usize, room: usize, wanted: usize) -> u8
     0
 }
 
-// What the groups of n taxa take at most, and with the flips of m columns.
+// How many bytes the groups of n taxa take at most.
 fn tree_room(n: u16) -> usize
     requires { ⌜ 0 < n ⌝ }
     ensures { λ r. ⌜ r ≡ treeRoom n ⌝ }
@@ -60,6 +60,7 @@ fn tree_room(n: u16) -> usize
     20 + 16 * (n as usize - 1)
 }
 
+// And with the flips of m columns.
 fn answer_room(n: u16, m: u16) -> usize
     requires { ⌜ 0 < n ⌝ }
     ensures { λ r. ⌜ r ≡ roomFor n m ⌝ }
