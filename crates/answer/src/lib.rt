@@ -1,6 +1,7 @@
 // An answer file: one head, its groups, its flips, one end. The operations "read an answer" and "write an answer".
 // Promises: every byte string is taken or refused as document 01 says, what is written is the file of what is given, and
 // file and content determine each other. Rests on taxa and record.
+#![tactic(auto)]
 mod given;
 pub mod reader;
 mod rules;

@@ -1,6 +1,7 @@
 // A matrix file: one head, perhaps n multiplicities, m columns, one end. The operation "check a matrix", and the columns of a file that it takes.
 // Promises: every byte string is taken with its n and m or refused with document 01's number and place; file and content
 // determine each other. Rests on taxa and record.
+#![tactic(auto)]
 pub mod writer;
 
 ghost use Rattle.std.specs.Prelude.{◌≡◌, ◌+◌, ◌*◌, ◌<◌, ◌≤◌, length};

@@ -1,6 +1,7 @@
 // A name list: a record for each name, one end. The operation "check a name list", and the names of a file that it takes.
 // Promises: every byte string is taken with the number of its names or refused with document 02's number and place; file and names
 // determine each other. Rests on record and grammar.
+#![tactic(auto)]
 ghost use Rattle.std.specs.Prelude.{◌≡◌, ◌<◌, length};
 ghost use Rattle.record.specs.Bytes.{equal};
 ghost use Rattle.grammar.specs.Limits.{is_in};

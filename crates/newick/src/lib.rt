@@ -1,6 +1,7 @@
 // Source trees in: the operation "read source trees", a Newick text to a matrix file and a name list.
 // Promises: for any text and any lengths of the outputs, every number and every byte is that of specs/Read.antt.
 // Rests on taxa, record, matrix, grammar, ledger and names.
+#![tactic(auto)]
 mod hints;
 mod list;
 mod reader;

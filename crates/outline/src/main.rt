@@ -1,6 +1,7 @@
 // Reads a matrix file on standard input and prints its answer, or one line `refused N at P`, as document 01 says.
 // Promises nothing of its own: the work is `tree::build`, and what is printed is compared with stored and independent output.
 // Rests on tree and record; reading and printing are the toolchain's io.
+#![tactic(auto)]
 ghost use Rattle.std.specs.Prelude.{◌≡◌, ◌+◌, ◌*◌, ◌≤◌, length};
 
 use libc::{STDIN_FILENO, STDOUT_FILENO};

@@ -1,6 +1,7 @@
 // Records of a file: what each kind looks like, one record in by a cursor, numbers and records out.
 // Promises: reading a record and writing one are what specs/ says, for any bytes and any place.
 // Rests on nothing.
+#![tactic(auto)]
 pub mod number;
 pub mod writer;
 

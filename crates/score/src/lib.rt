@@ -1,6 +1,7 @@
 // The score of an answer against a matrix: for each column with a 1 the flips that bring it to the nearest node of the tree.
 // Promises: for any two byte strings, raises and lowers are those of specs/Score.antt, or the one refusal that document 01
 // assigns. Flips count the specimens that their taxa stand for. Rests on taxa, record, matrix and answer.
+#![tactic(auto)]
 ghost use Rattle.std.specs.Prelude.{◌≡◌, ℕ, ◌*◌, ◌≤◌, ◌<◌, ◌+◌, length, get_or};
 ghost use Rattle.taxa.specs.Sets.{multiplicity_in};
 ghost use Rattle.matrix.specs.Matrix.{columns_at, column_in};

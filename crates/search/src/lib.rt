@@ -1,6 +1,7 @@
 // The search for the least division of a group: a largest flow to each taxon from all that are lower, in the lent workspace.
 // Promises that a flow of the division's cost stands there, that side A is what hops reach past it, and that cost, A and t are what listing gives.
 // Rests on taxa and on method; signed numbers are confined to module net.
+#![tactic(auto)]
 pub mod net;
 mod push;
 mod reach;

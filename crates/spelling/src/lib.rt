@@ -1,6 +1,7 @@
 // An answer and a name list written as Newick text: the tree of the answer's groups, parts by lowest taxon, with the names of the list.
 // Promises: for any two byte strings and any lent output the answer and every byte are those of specs/Write.antt; proofs/Promises.antt has what the text
 // says. Rests on taxa, record, answer, grammar, clades and names.
+#![tactic(auto)]
 mod spell;
 
 ghost use Rattle.std.specs.Prelude.{◌≡◌, length};

@@ -2,6 +2,7 @@
 // standard error instead: `refused N at P`, why in words, and the line and the column of that place.
 // Promises nothing of its own: the work is `newick::read`, `tree::build` and `spelling::write`, and what is printed is compared with stored and independent
 // output. Rests on these three and on record; reading and printing are the toolchain's io.
+#![tactic(auto)]
 ghost use Rattle.std.specs.Prelude.{◌≡◌, ◌+◌, ◌≤◌, length};
 
 use libc::{STDERR_FILENO, STDIN_FILENO, STDOUT_FILENO};

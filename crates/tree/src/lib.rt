@@ -1,6 +1,7 @@
 // The build, whole or in two steps. A group hands its parts on, and each part is again a group; then the answer file, groups in file order, then flips.
 // Promises: for any bytes and any lengths of the lent buffers, every number and every byte is that of specs/Build.antt, specs/Tree.antt and
 // specs/Flips.antt. Rests on taxa, method, record, matrix, answer, search and split.
+#![tactic(auto)]
 mod answers;
 mod groups;
 mod grow;
