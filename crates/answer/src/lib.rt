@@ -20,7 +20,7 @@ use writer::put_answer;
 
 // What an answer holds beside its flips, in file widths; the groups have 63 places, those past the last 0. As C lays it out, so that C can lend one.
 #[repr(C)]
-#[derive(Drop)]
+#[derive(Clone, Copy)]
 pub struct Answer {
     pub n: u16,
     pub m: u16,
@@ -31,21 +31,21 @@ pub struct Answer {
     pub costs: [u32; 63],
 }
 
-#[derive(Drop)]
+#[derive(Clone, Copy)]
 pub enum Verdict {
     Taken,
     Refused(Refusal),
 }
 
 // What reading answers: the verdict, and the value that was read.
-#[derive(Drop)]
+#[derive(Clone, Copy)]
 pub struct Reading {
     pub verdict: Verdict,
     pub answer: Answer,
 }
 
 // What writing answers: how many bytes were written, or the refusal.
-#[derive(Drop)]
+#[derive(Clone, Copy)]
 pub enum Written {
     Length(usize),
     Refused(Refusal),

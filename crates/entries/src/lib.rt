@@ -12,7 +12,7 @@ use answer::{Answer, Reading, Written, read, write};
 
 // A column with its raised and lowered taxa, the column in its file width. As C lays it out, so that C can lend a list of them.
 #[repr(C)]
-#[derive(Drop)]
+#[derive(Clone, Copy)]
 pub struct Flip {
     pub column: u16,
     pub raised: u64,

@@ -13,7 +13,7 @@ ghost use Rattle.matrix.specs.Check as check;
 use record::number::{u16_at, u64_at};
 use record::{Cursor, Passed, Record, Refusal, Step};
 
-#[derive(Drop)]
+#[derive(Clone, Copy)]
 pub struct Column {
     pub weight: u16,
     pub ones: u64,
@@ -21,7 +21,7 @@ pub struct Column {
 }
 
 // What the check of a matrix answers: n and m, or the refusal.
-#[derive(Drop)]
+#[derive(Clone, Copy)]
 pub enum Checked {
     Taken(u16, u16),
     Refused(Refusal),

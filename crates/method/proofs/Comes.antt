@@ -13,7 +13,7 @@ use Rattle.method.specs.Split.{Column, Same, flipped, side, split_cost, after, F
 use Rattle.method.specs.Tree.{Group, Walk, walked, node, build, Turn, now, later, HandsOn, Comes, here, below}
 use Rattle.method.proofs.Parts.{Parts, next, inside_R, is_part, part_side}
 use Rattle.method.proofs.Entries.{same_refl, same_trans, Settled, settled_⊆, settled_same, Kept, kept_part, flip_frame, flip_free, flip_part, settled_share}
-use Rattle.method.proofs.Splits.{part_of, split_parts, part_in}
+use Rattle.method.proofs.Splits.{part_of, split_parts_lem, part_in}
 use Rattle.method.proofs.Depth.{build_node, build_ind}
 use Rattle.method.proofs.Walks.{build_tame}
 
@@ -60,7 +60,7 @@ module _ (k : ℕ) (μ : ℕ → ℕ) (m : ℕ) where
 
   module _ {cols mid : ℕ → Column} {S P : ℕ} (fits : S < 2 ^ k) (d : HandsOn k μ m cols S mid P) where
     ps : Parts k μ m (after k μ m cols S) S S (split_parts k μ m cols S)
-    ps = split_parts k μ m cols S fits d.two
+    ps = split_parts_lem k μ m cols S fits d.two
 
     part_fits : P < 2 ^ k
     part_fits = (part_in k μ m cols S fits d.two (turn_in d.turn)).0

@@ -8,7 +8,7 @@ use Rattle.method.specs.Split.{Column, side, after, split_parts}
 use Rattle.method.specs.Tree.{Components, Line, end, and}
 use Rattle.method.proofs.Parts.{Part, Parts, done, next, inside_R, cover, is_part, one_side, part_side}
 use Rattle.method.proofs.Links.{linked_in, in_linked}
-use Rattle.method.proofs.Splits.{part_of, split_parts}
+use Rattle.method.proofs.Splits.{part_of, split_parts_lem}
 use Rattle.method.proofs.Order.{split_two}
 
 module _ (k : ℕ) (μ : ℕ → ℕ) (m : ℕ) (cols : ℕ → Column) (S : ℕ) where
@@ -34,4 +34,4 @@ split_components k μ m pos cols S fits two = record {
 }
   where
     ps : Parts k μ m (after k μ m cols S) S S (split_parts k μ m cols S)
-    ps = split_parts k μ m cols S fits two
+    ps = split_parts_lem k μ m cols S fits two

@@ -14,7 +14,7 @@ use Rattle.method.specs.Tree.{Group, Walk, walked, node, build, Clade, group, si
 use Rattle.method.proofs.Flips.{Proper}
 use Rattle.method.proofs.Parts.{Parts, Part, next, inside_R, cover, unique, is_part, ones_together}
 use Rattle.method.proofs.Entries.{same_one, same_zero, no_zero, no_one}
-use Rattle.method.proofs.Splits.{split_parts, after_proper}
+use Rattle.method.proofs.Splits.{split_parts_lem, after_proper}
 use Rattle.method.proofs.Depth.{build_ind}
 use Rattle.method.proofs.Walks.{Tame, stays, build_tame, parts_tame}
 
@@ -99,7 +99,7 @@ module _ (k : ℕ) (μ : ℕ → ℕ) (m : ℕ) where
     last = (walked (build k μ m) next_cols Ps).columns
 
     ps : Parts k μ m next_cols S S Ps
-    ps = split_parts k μ m cols S fits two
+    ps = split_parts_lem k μ m cols S fits two
 
     tame : Tame k μ m next_cols S Ps (walked (build k μ m) next_cols Ps)
     tame = parts_tame k μ m pos fits ps next_cols

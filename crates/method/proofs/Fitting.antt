@@ -19,7 +19,7 @@ use Rattle.method.proofs.Flips.{Proper}
 use Rattle.method.proofs.Parts.{Parts, done, next, inside_R}
 use Rattle.method.proofs.Listing.{side_best, alone}
 use Rattle.method.proofs.Entries.{same_sym, Heavy, heavy_as}
-use Rattle.method.proofs.Splits.{split_parts, part_in, after_weight, after_same}
+use Rattle.method.proofs.Splits.{split_parts_lem, part_in, after_weight, after_same}
 use Rattle.method.proofs.Depth.{build_ind}
 use Rattle.method.proofs.Walks.{total_++, build_tame}
 use Rattle.method.proofs.Filling.{fills_same, fills_⊆, filled}
@@ -186,7 +186,7 @@ module _ (k : ℕ) (μ : ℕ → ℕ) (m : ℕ) (pos : Positive μ) where
     unfolding node total
     node_free cols S fits two ih w fit =
         let cheap = free_cost k μ m lam cols S fits two (choose fit) in
-        let ps = split_parts k μ m cols S fits two in
+        let ps = split_parts_lem k μ m cols S fits two in
         let rest =
         walked_free ps (λ P l. (part_in k μ m cols S fits two l).0) ih (after k μ m cols S) (heavy_as (after_weight k μ m cols S fits two) w)
         (λ P l. fitted_⊆ (inside_R k μ m (after k μ m cols S) S ps l) (fitted_same (after_same k μ m cols S fits two pos w cheap) fit)) in

@@ -18,7 +18,7 @@ use Rattle.taxa.proofs.Counts.{count_none, count_∖, count_pos}
 use Rattle.method.specs.Split.{Column, after, split_parts}
 use Rattle.method.specs.Tree.{Group, walked, node, build, kept, ordered, total, InFileOrder, Line, end, and}
 use Rattle.method.proofs.Parts.{Parts, done, next}
-use Rattle.method.proofs.Splits.{split_parts, part_in}
+use Rattle.method.proofs.Splits.{split_parts_lem, part_in}
 use Rattle.method.proofs.Depth.{build_ind}
 use Rattle.method.proofs.Shape.{line_++, line_map, Ahead, holds, apart, Shape, shape_in, build_shape}
 
@@ -39,7 +39,7 @@ module _ (k : ℕ) (μ : ℕ → ℕ) (m : ℕ) where
       go (Q ∷ Qs) t = omega arith
 
   pub split_two : (cols : ℕ → Column) (S : ℕ) → S < 2 ^ k → 1 < count k S → 2 ≤ length (split_parts k μ m cols S)
-  split_two cols S fits two = two_parts (split_parts k μ m cols S fits two) (omega arith) (λ P l. (part_in k μ m cols S fits two l).2)
+  split_two cols S fits two = two_parts (split_parts_lem k μ m cols S fits two) (omega arith) (λ P l. (part_in k μ m cols S fits two l).2)
 
   parts_length : {old : ℕ → Column} {S R : ℕ} {Ps : List ℕ} → Parts k μ m old S R Ps → ((P : ℕ) → Memᴰ P Ps → 0 < count k P) → length Ps ≤ count k R
   parts_length done h = omega arith
@@ -53,7 +53,7 @@ module _ (k : ℕ) (μ : ℕ → ℕ) (m : ℕ) where
   -- Each part beside a part has a taxon of its own.
   pub split_beside : (cols : ℕ → Column) (S : ℕ) → S < 2 ^ k → 1 < count k S → {P : ℕ} → Memᴰ P (split_parts k μ m cols S)
       → count k P + length (split_parts k μ m cols S) ≤ count k S + 1
-  split_beside cols S fits two = beside (split_parts k μ m cols S fits two) (λ Q l. (part_in k μ m cols S fits two l).1)
+  split_beside cols S fits two = beside (split_parts_lem k μ m cols S fits two) (λ Q l. (part_in k μ m cols S fits two l).1)
 
   walked_length : {old : ℕ → Column} {S R : ℕ} {Ps : List ℕ} → Parts k μ m old S R Ps
       → ((P : ℕ) → Memᴰ P Ps → (cols : ℕ → Column) → length (build k μ m cols P).groups < count k P) → (cols : ℕ → Column)
@@ -73,7 +73,7 @@ module _ (k : ℕ) (μ : ℕ → ℕ) (m : ℕ) where
   pub build_length : (cols : ℕ → Column) (S : ℕ) → S < 2 ^ k → 0 < count k S → length (build k μ m cols S).groups < count k S
   unfolding node
   build_length = build_ind k μ m (λ cols S w. 0 < count k S → length w.groups < count k S) (λ cols S fits few p. p) (λ cols S fits two ih p.
-      let small = walked_length (split_parts k μ m cols S fits two) (λ P l c. ih P l c (part_in k μ m cols S fits two l).1) (after k μ m cols S) in
+      let small = walked_length (split_parts_lem k μ m cols S fits two) (λ P l c. ih P l c (part_in k μ m cols S fits two l).1) (after k μ m cols S) in
       omega (arith, split_two cols S fits two))
 
 -- ---- the order in the file

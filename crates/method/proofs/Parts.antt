@@ -170,15 +170,15 @@ module _ (k : ℕ) (μ : ℕ → ℕ) (m : ℕ) (cols : ℕ → Column) (S : ℕ
             (record { sub = λ h. let (x, y) = (in∖ R P).0 h in (in∩ R (S ∖ P)).1 (x, (in∖ S P).1 (s.sub x, y)) }))
             (apart_∩ s (∖-⊆ S P) a (apart_rest p.inside p.shut))
 
-    parts_of : (f : ℕ) → Enough f
+    parts_of_lem : (f : ℕ) → Enough f
     unfolding parts_of
-    parts_of zero = λ R s a l. subst (λ (X : ℕ). Parts X []) (sym (count_zero k {x = R} (omega (arith, ⊆-≤ s)) (omega arith))) done
-    parts_of (suc f) = parts_step f (parts_of f)
+    parts_of_lem zero = λ R s a l. subst (λ (X : ℕ). Parts X []) (sym (count_zero k {x = R} (omega (arith, ⊆-≤ s)) (omega arith))) done
+    parts_of_lem (suc f) = parts_step f (parts_of_lem f)
 
     -- The parts of S are such a list.
     pub parts_are : Parts S (parts k μ m cols S)
     unfolding parts
-    parts_are = parts_of k S (⊆-refl S) apart_all (count_le k S)
+    parts_are = parts_of_lem k S (⊆-refl S) apart_all (count_le k S)
 
     -- A column that takes part and has a one in a part has all its ones of S there.
     pub ones_together : Positive μ → {A i j l : ℕ} (c : ℕ) → c < m → A ⊆ S → Apart A → l ∈ S → l ∈ (cols c).zeros → i ∈ A → i ∈ (cols c).ones → j ∈ S → j ∈ (cols c).ones → j ∈ A

@@ -14,7 +14,7 @@ use Rattle.taxa.proofs.Counts.{count_⊆}
 use Rattle.method.specs.Split.{Column, after, split_parts}
 use Rattle.method.specs.Tree.{Group, walked, node, build, Line, end, and}
 use Rattle.method.proofs.Parts.{Parts, done, next, inside_R}
-use Rattle.method.proofs.Splits.{split_parts, part_in}
+use Rattle.method.proofs.Splits.{split_parts_lem, part_in}
 use Rattle.method.proofs.Depth.{build_ind}
 
 -- ---- two sets, and two of a list
@@ -85,7 +85,7 @@ module _ (k : ℕ) where
     }
       where
         ps : Parts k μ m (after k μ m cols S) S S (split_parts k μ m cols S)
-        ps = split_parts k μ m cols S fits two
+        ps = split_parts_lem k μ m cols S fits two
 
         hs : List Group
         hs = (walked (build k μ m) (after k μ m cols S) (split_parts k μ m cols S)).groups

@@ -25,8 +25,8 @@ module _ (k : ℕ) (μ : ℕ → ℕ) (m : ℕ) (cols : ℕ → Column) (S : ℕ
   pub part_of : A ⊆ S
   part_of = (side_best k μ m cols S fits two).is_division.inside
 
-  pub split_parts : Parts k μ m next_cols S S Ps
-  split_parts = parts_are k μ m next_cols S fits
+  pub split_parts_lem : Parts k μ m next_cols S S Ps
+  split_parts_lem = parts_are k μ m next_cols S fits
 
   pub after_weight : (c : ℕ) → (next_cols c).weight ≡ (cols c).weight
   unfolding flipped
@@ -48,5 +48,5 @@ module _ (k : ℕ) (μ : ℕ → ℕ) (m : ℕ) (cols : ℕ → Column) (S : ℕ
   -- A part is a smaller set, and not empty.
   pub part_in : {P : ℕ} → Memᴰ P Ps → (P < 2 ^ k) × (0 < count k P) × (count k P < count k S)
   part_in l =
-      let p = (is_part k μ m next_cols S split_parts l).1 in
+      let p = (is_part k μ m next_cols S split_parts_lem l).1 in
       (omega (arith, ⊆-≤ p.inside), count_in k (below k fits (p.inside.sub p.member)) p.member, part_smaller k μ m cols S A part_of fits (side_best k μ m cols S fits two).is_division p)

@@ -15,7 +15,7 @@ use Rattle.method.specs.Tree.{Group, Walk, leaf, walked, total, node, build}
 use Rattle.method.proofs.Flips.{Proper, flips_bound, weighed, flips_cost}
 use Rattle.method.proofs.Parts.{Parts, done, next, inside_R, cover, is_part, part_side}
 use Rattle.method.proofs.Entries.{known, same_refl, same_trans, Settled, settled_⊆, settled_same, flip_frame, flip_free, flip_part, settled_share, weighed_self, weighed_add, Heavy, heavy_as}
-use Rattle.method.proofs.Splits.{part_of, split_parts, after_weight, after_known, after_proper, after_same}
+use Rattle.method.proofs.Splits.{part_of, split_parts_lem, after_weight, after_known, after_proper, after_same}
 use Rattle.method.proofs.Depth.{build_ind}
 
 pub total_++ : (gs hs : List Group) → total (gs ++ hs) ≡ total gs + total hs
@@ -109,7 +109,7 @@ module _ (k : ℕ) (μ : ℕ → ℕ) (m : ℕ) where
     in_a = part_of k μ m cols S fits two
 
     ps : Parts k μ m next_cols S S (split_parts k μ m cols S)
-    ps = split_parts k μ m cols S fits two
+    ps = split_parts_lem k μ m cols S fits two
 
     below_tame : Tame next_cols S (split_parts k μ m cols S) (walked (build k μ m) next_cols (split_parts k μ m cols S))
     below_tame = walked_tame ps t next_cols

@@ -15,14 +15,14 @@ use record::number::u16_at;
 use record::{Cursor, Passed, Record, Refusal, Step, Varying};
 
 // What the check of a name list answers: how many names, or the refusal.
-#[derive(Drop)]
+#[derive(Clone, Copy)]
 pub enum Listed {
     Taken(usize),
     Refused(Refusal),
 }
 
 // Where a name stands in a file, and how long it is.
-#[derive(Drop)]
+#[derive(Clone, Copy)]
 pub struct Found {
     pub place: usize,
     pub length: usize,

@@ -23,7 +23,7 @@ use record::Refusal;
 // Where the reader stands between two tokens, whether a subtree has just ended there, and what it has counted. Of the file: whether a tree is finished,
 // how many taxa, and how many columns in the trees that are finished. Of the tree that is read: its names, how many brackets have opened, and how many
 // of these are open.
-#[derive(Drop)]
+#[derive(Clone, Copy)]
 pub struct Reading {
     pub at: usize,
     pub ended: bool,
@@ -37,14 +37,14 @@ pub struct Reading {
 
 // What a token comes to: where the reader stands then; with a number other than 0 that is the place of this refusal. (No enum, so that what is read stays
 // in the processor's registers: bench/newick.sh.)
-#[derive(Drop)]
+#[derive(Clone, Copy)]
 pub struct Stepped {
     pub reading: Reading,
     pub refusal: u8,
 }
 
 // The bytes of a name, eight by eight.
-#[derive(Drop)]
+#[derive(Clone, Copy)]
 pub struct Words {
     pub first: u64,
     pub second: u64,
@@ -53,7 +53,7 @@ pub struct Words {
 }
 
 // What reading answers: the lengths of the matrix file and of the name list, or the refusal.
-#[derive(Drop)]
+#[derive(Clone, Copy)]
 pub enum Derived {
     Taken(usize, usize),
     Refused(Refusal),

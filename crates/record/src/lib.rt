@@ -13,14 +13,14 @@ ghost use Rattle.record.specs.Records.{allowed, varied, varying_step, finds};
 use number::{u16_at, u32_at};
 
 // Why and where an input is refused: document 01's number and place.
-#[derive(Drop)]
+#[derive(Clone, Copy)]
 pub struct Refusal {
     pub number: u8,
     pub place: usize,
 }
 
 // What a record says of itself: its kind and how long its payload is.
-#[derive(Drop)]
+#[derive(Clone, Copy)]
 pub struct Record {
     pub kind: u16,
     pub length: u16,
@@ -81,7 +81,7 @@ impl Record {
 }
 
 // What a record says of itself whose length may vary: the least, or a multiple of `by` more, up to the most.
-#[derive(Drop)]
+#[derive(Clone, Copy)]
 pub struct Varying {
     pub kind: u16,
     pub least: u16,
@@ -120,20 +120,20 @@ impl Varying {
 }
 
 // The place of the next record.
-#[derive(Drop)]
+#[derive(Clone, Copy)]
 pub struct Cursor {
     pub at: usize,
 }
 
 // What reading a record finds: its payload's place with the cursor moved on, or the refusal.
-#[derive(Drop)]
+#[derive(Clone, Copy)]
 pub enum Step {
     Payload(usize, Cursor),
     Refused(Refusal),
 }
 
 // Where a reading that keeps no values stands: at the cursor moved on, or refused.
-#[derive(Drop)]
+#[derive(Clone, Copy)]
 pub enum Passed {
     At(Cursor),
     Refused(Refusal),

@@ -15,10 +15,10 @@ use matrix::{Checked, Column};
 use record::{Passed, Refusal};
 
 // Flips from 0 to 1, and flips from 1 to 0: counted apart, and summed by nothing but `distance`.
-#[derive(Drop)]
+#[derive(Clone, Copy)]
 pub struct Raises(pub u32);
 
-#[derive(Drop)]
+#[derive(Clone, Copy)]
 pub struct Lowers(pub u32);
 
 // "The taxa in both Z and X".
@@ -102,7 +102,7 @@ fn node_for(planes: &[u64; 72], it: Column, n: u32, groups: &[u64], k: usize) ->
 }
 
 // Raises and lowers, each times its weight.
-#[derive(Drop)]
+#[derive(Clone, Copy)]
 pub struct Sums {
     pub raises: Raises,
     pub lowers: Lowers,
@@ -164,7 +164,7 @@ fn score_columns(
 }
 
 // What the score answers: raises and lowers, each times its weight, or the refusal.
-#[derive(Drop)]
+#[derive(Clone, Copy)]
 pub enum Scored {
     Taken(Raises, Lowers),
     Refused(Refusal),

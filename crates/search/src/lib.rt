@@ -91,7 +91,7 @@ fn connected(
 }
 
 // The least cost so far, and the taxon that it was met at first; `NOBODY`, while it is a bound that was not met.
-#[derive(Drop)]
+#[derive(Clone, Copy)]
 struct Best {
     cost: u32,
     other: usize,
@@ -197,7 +197,7 @@ fn cheapest(
 }
 
 // What a division costs, the side A of the group's lowest taxon, and t, the lowest taxon of the other side.
-#[derive(Drop)]
+#[derive(Clone, Copy)]
 pub struct Split {
     pub cost: u32,
     pub side: u64,

@@ -89,7 +89,7 @@ pub fn clear_places(ws: &mut [i32], offsets: &[u16; 257], m: usize)
 }
 
 // What a column joins, and where its places start.
-#[derive(Drop)]
+#[derive(Clone, Copy)]
 pub struct Column {
     pub joined: u64,
     pub offset: usize,
@@ -114,7 +114,7 @@ fn slot(column: Column, i: usize) -> usize
 }
 
 // The net flow of a pair: what goes from the taxon into the column, or what comes from the column into the taxon.
-#[derive(Drop)]
+#[derive(Clone, Copy)]
 pub struct NetFlow {
     pub out: u32,
     pub inn: u32,

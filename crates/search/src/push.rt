@@ -35,7 +35,7 @@ fn step(
 }
 
 // The size of a flow, and the taxa reached from its sources.
-#[derive(Drop)]
+#[derive(Clone, Copy)]
 pub struct Cut {
     pub size: u32,
     pub side: u64,

@@ -40,7 +40,7 @@ fn arc(weight: u32, planes: &[u64; 72], i: usize) -> u32
 
 // What a taxon finds at a column: the weight, what it can send, and what of that the column lets through whoever takes it: what the taxon can turn back, or
 // the column's room.
-#[derive(Drop)]
+#[derive(Clone, Copy)]
 pub struct Gate {
     pub weight: u32,
     pub sends: u32,

@@ -18,7 +18,7 @@ use record::{Passed, Refusal};
 pub const LONGEST: usize = 64 * 32 + 63 * 2 + 64;
 
 // What writing answers: how many bytes were written, or the refusal.
-#[derive(Drop)]
+#[derive(Clone, Copy)]
 pub enum Spelled {
     Length(usize),
     Refused(Refusal),

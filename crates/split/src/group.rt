@@ -41,7 +41,7 @@ pub fn divide(
 }
 
 // What a group hands on: the split's cost, and how many parts were listed.
-#[derive(Drop)]
+#[derive(Clone, Copy)]
 pub struct Handed {
     pub cost: u32,
     pub number: usize,

@@ -19,7 +19,7 @@ use matrix::Checked;
 use record::Refusal;
 
 // What the split answers: the division's cost, its side A and the taxon t, or the refusal.
-#[derive(Drop)]
+#[derive(Clone, Copy)]
 pub enum Divided {
     Taken(u32, u64, u32),
     Refused(Refusal),

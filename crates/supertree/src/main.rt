@@ -57,7 +57,7 @@ fn written(room: &[u8], size: usize) -> &[u8] {
 }
 
 // A place in a text as editors count it: from 1, a column for each byte.
-#[derive(Drop)]
+#[derive(Clone, Copy)]
 struct Spot {
     line: u64,
     column: u64,

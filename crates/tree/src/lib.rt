@@ -24,7 +24,7 @@ use record::{Passed, Refusal};
 use split::columns;
 
 // What the build answers, and each of its steps: the length written and the total, or the refusal.
-#[derive(Drop)]
+#[derive(Clone, Copy)]
 pub enum Built {
     Taken(usize, u32),
     Refused(Refusal),
