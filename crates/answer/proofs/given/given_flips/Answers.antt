@@ -1,0 +1,52 @@
+-- `answer::given::given_flips` meets its contract. The invariant: those passed lead here, and the floor is theirs.
+use borrow.Author.Rules.{rules}
+use mathlib.Core.Path.{◌≡◌, refl, sym, subst, ◌∙◌}
+use Prim.Native.Nat.{ℕ, ◌+◌, ◌*◌, ◌-◌, ◌≤◌}
+use lib.ListN.{get_or}
+use Rattle.record.specs.declared.Passed.TheVariants.{At}
+use Rattle.answer.specs.Rules.{floor_of}
+use Rattle.answer.specs.Tests.{as_given, walk, entry_test, flips_test}
+use Rattle.answer.proofs.Rows.{floor_next}
+use Rattle.answer.proofs.Kept.{EntryKept, entry_keeps}
+use Rattle.answer.proofs.Walks.{walk_none, walk_more, walk_stops, given_entry}
+use native.Mathlib.Omega.{arith}
+use Rattle.answer.proofs.given.given_flips.Goals as goal
+
+-- What was met is flips j as given.
+tested : (c : goal.After-judge-passed) →
+    let l = c.loop-j in
+    let s = c.args in
+    c.judge-passed.result ≡ flips_test as_given s.n s.m s.columns.now s.raised.now s.lowered.now l.j l.here
+unfolding entry_test
+tested c = rw (c.judge-passed.ensures, c.past.ensures, c.entry_fault-fault.ensures, c.loop-j.invariant.2)
+
+-- Where it passed, it keeps its rules.
+keeps : (c : goal.In-At-2) →
+    let l = c.loop-j in
+    let s = c.args in
+    EntryKept s.n s.m (floor_of s.columns.now l.j) (get_or s.columns.now l.j 0) (get_or s.raised.now l.j 0) (get_or s.lowered.now l.j 0)
+keeps c = entry_keeps _ _ _ _ _ _ (given_entry _ _ _ _ _ _ _ (sym c.in-At.is ∙ tested c.before.before)).0
+
+pub loop-j-init : goal.loop-j-init
+unfolding floor_of
+loop-j-init c = (search rules, search rules, refl, walk_none _ _)
+
+pub returns-in_default : goal.returns-in_default
+returns-in_default c =
+    let l = c.loop-j in
+    c.in_default.is ∙ walk_stops _ _ _ l.j (omega arith) l.invariant.3 (sym c.in_default.is ∙ tested c.before.before)
+
+pub overflow_add-floor : goal.overflow_add-floor
+overflow_add-floor c = omega (arith, keeps c.before.before)
+
+pub loop-j-preserved : goal.loop-j-preserved
+loop-j-preserved c =
+    let l = c.loop-j in
+    let e = sym c.in-At.is ∙ tested c.before.before.before.before in
+    (omega arith, omega (arith, (given_entry _ _ _ _ _ _ _ e).1), floor_next _ l.j, e ∙ walk_more _ _ l.j l.invariant.3)
+
+pub returns : goal.returns
+returns c =
+    let s = c.args in
+    let all : c.loop-j.j ≡ s.flips = omega arith in
+    subst (λ (k : ℕ). At c.loop-j.here ≡ walk (flips_test as_given s.n s.m s.columns.now s.raised.now s.lowered.now) k s.from) all c.loop-j.invariant.3

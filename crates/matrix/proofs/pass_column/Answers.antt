@@ -1,0 +1,25 @@
+-- `matrix::pass_column` meets its contract: a refused step goes straight out, and else the column is read and judged.
+use borrow.Author.Rules.{rules}
+use native.Mathlib.Omega.{arith}
+use mathlib.Core.Path.{◌≡◌, sym, ◌∙◌}
+use Rattle.record.specs.Records as records
+use Rattle.record.specs.Records.{step, record_of}
+use Rattle.record.proofs.Steps.{held}
+use Rattle.matrix.specs.Check.{column_passed}
+use Rattle.matrix.proofs.pass_column.Goals as goal
+
+-- What the step found is a column's step.
+found : (c : goal.After-read-step) → c.read-step.result ≡ step c.args.file.now c.args.here.at (record_of records.column)
+found c = rw (← c.of.ensures) c.read-step.ensures
+
+pub returns-in_default : goal.returns-in_default
+unfolding column_passed
+returns-in_default c = rw (c.refusal.ensures, ← found c.before.before.before, c.in_default.is)
+
+pub read-requires : goal.read-requires
+read-requires c = omega (arith, held (sym c.in-Payload.is ∙ found c.before.before.before))
+
+pub returns : goal.returns
+unfolding column_passed
+returns c =
+    rw (c.judge.ensures, c.read.ensures, ← found c.before.before.before.before.before, c.in-Payload.is)

@@ -1,0 +1,92 @@
+-- `reach::sender` meets its contract. The invariant: of the taxa looked at none leads everywhere, and the one found sends.
+use borrow.Author.Rules.{rules}
+use native.Mathlib.Omega.{arith}
+use mathlib.Core.Logic.{⊎_elim}
+use mathlib.Core.Path.{◌≡◌, sym, ap, ◌∙◌}
+use Prim.Native.Nat.{ℕ, ◌^◌, max}
+use mathlib.Core.Bool.{true}
+use Rattle.taxa.specs.Sets.{has, ◌∖◌}
+use Rattle.search.specs.Workspace.{outs, inns}
+use Rattle.search.specs.Search.{nth}
+use Rattle.search.proofs.Reaching.{pair, gate_of, pair_asks, sends_of, free_of, Seeks, seek_start, seek_found, seek_skip, seek_take, seek_end, entry, used_fits, gate_up, gate_free}
+use Rattle.search.proofs.reach.sender.Goals as goal
+
+-- The way back from the lowest taxon to the column, and to the start.
+abbrev known : goal.After-lowest-i → goal.After-column_at-column
+known c = c.before.before.before
+
+abbrev begun : goal.After-lowest-i → goal.Start
+begun c = (known c).before.before
+
+-- The column joins it.
+joins : (c : goal.After-lowest-i) → has (nth (begun c).args.joined.now (begun c).args.c) c.lowest-i.result ≡ true
+joins c = ((begun c).requires.2.sub (c.loop-left.invariant.inside.sub c.lowest-i.ensures.2)).is
+
+-- Its net flow.
+flows : (c : goal.After-flow-flow) →
+    let a = (begun c.before).args in
+    let i = c.lowest-i.result in
+    (c.flow-flow.result.out ≡ outs a.ws.now (nth a.joined.now) a.c i) × (c.flow-flow.result.inn ≡ inns a.ws.now (nth a.joined.now) a.c i)
+flows c = let a = (begun c.before).args in c.flow-flow.ensures (nth a.joined.now) a.c (known c.before).column_at_lem.ensures.0 (joins c.before)
+
+-- What the gate says of it.
+sends : (c : goal.After-gate_at-g) →
+    let a = (begun c.before.before).args in
+    c.gate_at-g.result.sends ≡ sends_of a.weights.now a.planes.now a.joined.now a.limits.now a.n a.ws.now a.c a.x c.lowest-i.result
+sends c =let p = (begun c.before.before).requires in gate_up p.0 p.1 (gate_of c.gate_at-g.ensures (flows c.before)) (joins c.before.before)
+
+free : (c : goal.After-gate_at-g) →
+    let a = (begun c.before.before).args in
+    c.gate_at-g.result.free ≡ free_of a.weights.now a.planes.now a.joined.now a.limits.now a.n a.ws.now a.c a.x c.lowest-i.result
+free c =let p = (begun c.before.before).requires in gate_free p.0 p.1 (gate_of c.gate_at-g.ensures (flows c.before)) (joins c.before.before)
+
+pub loop-left-init : goal.loop-left-init
+loop-left-init c = seek_start
+
+pub flow-flow-requires : goal.flow-flow-requires
+flow-flow-requires c = let p = (begun c).requires in pair_asks (pair p.0 p.1 c.lowest-i.result (joins c)) (known c).column_at_lem.ensures
+
+pub gate_at-g-requires : goal.gate_at-g-requires
+gate_at-g-requires c =
+    let start = begun c.before in
+    let p = start.pre in
+    let z = p.0.net in
+    let e = entry p.0 p.1 c.lowest-i.result (joins c.before) in (
+      omega (arith, z.columns),
+      omega (arith, z.weights),
+      z.light start.args.c p.1,
+      omega (arith, (flows c).0, e.0),
+      omega (arith, (flows c).1, e.1),
+      used_fits p.0 p.1,
+      c.lowest-i.ensures.1,
+      z.tabled,
+    )
+
+pub returns-then-g-gt0-2 : goal.returns-then-g-gt0-2
+returns-then-g-gt0-2 c =
+    let l = c.lowest-i.ensures in
+    seek_found
+    (c.loop-left.invariant.inside.sub l.2).is
+    (omega (arith, sends c.before.before.before.before, c.if-g-gt0.true))
+    (omega (arith, free c.before.before.before.before, c.if-g-gt0-2.true))
+    l.1
+
+pub loop-left-smaller : goal.loop-left-smaller
+loop-left-smaller c = c.rest-left.ensures.1
+
+pub loop-left-preserved : goal.loop-left-preserved
+loop-left-preserved c =
+    let l = c.lowest-i in
+    let q : c.rest-left.result ≡ c.loop-left.left ∖ 2 ^ l.result = c.rest-left.ensures.0 ∙ ap (λ (y : ℕ). c.loop-left.left ∖ 2 ^ y) (sym l.ensures.0) in
+    ⊎_elim
+    (λ w. rw w.3 (seek_take c.loop-left.invariant l.result l.ensures.2.is q (omega (arith, sends c.before.before.before, w.0.taken)) (omega (arith, free c.before.before.before, w.2.left)) l.ensures.1))
+    (λ w. rw w.1 (seek_skip c.loop-left.invariant l.result l.ensures.2.is q (omega (arith, sends c.before.before.before, w.0.left))))
+    c.if-g-gt0.branch
+
+pub returns : goal.returns
+returns c =
+    let e : c.loop-left.left ≡ 0 = omega arith in
+    seek_end (rw e at c.loop-left.invariant)
+
+pub column_at-column-requires : goal.column_at-column-requires
+column_at-column-requires c = let p = c.requires in (omega (arith, p.1, p.0.net.columns), p.0.net.offsets.is c.args.c (omega (arith, p.1)))
