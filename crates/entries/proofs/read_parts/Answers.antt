@@ -7,13 +7,13 @@ use Rattle.entries.proofs.Reading.{in_parts}
 use Rattle.entries.proofs.read_parts.Goals as goal
 
 pub slice_bounds-read-end-2 : goal.slice_bounds-read-end-2
-slice_bounds-read-end-2 c =sym (length-take-le _ _ (omega (arith, c.requires.0, c.requires.1.0, c.requires.1.1, c.at_most_256-room.ensures)))
+slice_bounds-read-end-2 c = sym (length-take-le _ _ (omega (arith, c.requires.0, c.requires.1.0, c.requires.1.1, c.at_most_256-room.ensures)))
 
 pub slice_bounds-read-end-4 : goal.slice_bounds-read-end-4
-slice_bounds-read-end-4 c =sym (length-take-le _ _ (omega (arith, c.requires.0, c.requires.1.0, c.requires.1.1, c.at_most_256-room.ensures)))
+slice_bounds-read-end-4 c = sym (length-take-le _ _ (omega (arith, c.requires.0, c.requires.1.0, c.requires.1.1, c.at_most_256-room.ensures)))
 
 pub slice_bounds-read-end-6 : goal.slice_bounds-read-end-6
-slice_bounds-read-end-6 c =sym (length-take-le _ _ (omega (arith, c.requires.0, c.requires.1.0, c.requires.1.1, c.at_most_256-room.ensures)))
+slice_bounds-read-end-6 c = sym (length-take-le _ _ (omega (arith, c.requires.0, c.requires.1.0, c.requires.1.1, c.at_most_256-room.ensures)))
 
 pub returns : goal.returns
 returns c =

@@ -20,13 +20,13 @@ listed_first k cs us ds l w = rw many at w
     many = let a = length-take-le k cs l.0 in let b = length-take-le k us l.1.0 in let c = length-take-le k ds l.1.1 in omega arith
 
 pub slice_bounds-write-end : goal.slice_bounds-write-end
-slice_bounds-write-end c =sym (length-take-le _ _ (omega (arith, c.requires.0, c.requires.1.0, c.requires.1.1)))
+slice_bounds-write-end c = sym (length-take-le _ _ (omega (arith, c.requires.0, c.requires.1.0, c.requires.1.1)))
 
 pub slice_bounds-write-end-2 : goal.slice_bounds-write-end-2
-slice_bounds-write-end-2 c =sym (length-take-le _ _ (omega (arith, c.requires.0, c.requires.1.0, c.requires.1.1)))
+slice_bounds-write-end-2 c = sym (length-take-le _ _ (omega (arith, c.requires.0, c.requires.1.0, c.requires.1.1)))
 
 pub slice_bounds-write-end-3 : goal.slice_bounds-write-end-3
-slice_bounds-write-end-3 c =sym (length-take-le _ _ (omega (arith, c.requires.0, c.requires.1.0, c.requires.1.1)))
+slice_bounds-write-end-3 c = sym (length-take-le _ _ (omega (arith, c.requires.0, c.requires.1.0, c.requires.1.1)))
 
 pub returns : goal.returns
 returns c =

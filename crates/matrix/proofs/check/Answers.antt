@@ -24,23 +24,14 @@ passed_head c = sym c.pass_head-head.ensures ∙ c.in-At.is
 known : (c : goal.In-At) → Head c.args.file.now c.in-At.second
 known c = head _ (sym (passed_head c))
 
--- The multiplicities were passed with the n of the head.
-multiplicities_are : (c : goal.After-pass_multiplicities-multiplicities) →
-    let file = c.args.file.now in
-    multiplicities_passed file (number_at 2 file 4) c.in-At.second ≡ c.pass_multiplicities-multiplicities.result
-multiplicities_are c = rw (← c.u16_at-n.ensures) (sym c.pass_multiplicities-multiplicities.ensures)
-
 passed_multiplicities : (c : goal.In-At-multiplicities) →
     let file = c.args.file.now in
     multiplicities_passed file (number_at 2 file 4) c.in-At.second ≡ At c.in-At-multiplicities.first
-passed_multiplicities c = multiplicities_are c.before.before.before ∙ c.in-At-multiplicities.is
-
--- The columns were passed with the n and m of the head.
-columns_are : (c : goal.After-pass_columns-columns) →
-    let file = c.args.file.now in
-    columns_passed file (all (number_at 2 file 4)) (number_at 2 file 6) c.in-At-multiplicities.first ≡ c.pass_columns-columns.result
-columns_are c =
-    rw (← c.u16_at-n.ensures, ← c.u16_at-m.ensures, ← c.all.ensures) (sym c.pass_columns-columns.ensures)
+passed_multiplicities c =
+    let multiplicities_are : (    let file = c.args.file.now in
+    multiplicities_passed file (number_at 2 file 4) c.in-At.second ≡ c.pass_multiplicities-multiplicities.result) =
+        rw (← c.u16_at-n.ensures) (sym c.pass_multiplicities-multiplicities.ensures) in
+    multiplicities_are ∙ c.in-At-multiplicities.is
 
 pub returns-in_default : goal.returns-in_default
 returns-in_default c =
@@ -54,19 +45,31 @@ u16_at-m-requires c = let h = known c.before in omega arith
 
 pub returns-in_default-multiplicities : goal.returns-in_default-multiplicities
 returns-in_default-multiplicities c =
-    checks _ (rw c.refusal-in_default-multiplicities.ensures (multiplicities_refused _ (passed_head c.before.before.before.before.before.before) (rw c.in_default-multiplicities.is (multiplicities_are c.before.before.before ∙ c.in_default-multiplicities.is))))
+    let multiplicities_are : (    let file = c.args.file.now in
+    multiplicities_passed file (number_at 2 file 4) c.in-At.second ≡ c.pass_multiplicities-multiplicities.result) =
+        rw (← c.u16_at-n.ensures) (sym c.pass_multiplicities-multiplicities.ensures) in
+    checks _ (rw c.refusal-in_default-multiplicities.ensures (multiplicities_refused _ (passed_head c.before.before.before.before.before.before) (rw c.in_default-multiplicities.is (multiplicities_are ∙ c.in_default-multiplicities.is))))
 
 pub all-requires : goal.all-requires
 all-requires c = let h = known c.before.before.before.before.before.before in omega arith
 
 pub returns-in_default-columns : goal.returns-in_default-columns
 returns-in_default-columns c =
-    checks _ (rw c.refusal-in_default-columns.ensures (columns_refused _ (passed_head c.before.before.before.before.before.before.before.before.before.before.before) (passed_multiplicities c.before.before.before.before.before) (rw c.in_default-columns.is (columns_are c.before.before.before ∙ c.in_default-columns.is))))
+    let columns_are : (    let file = c.args.file.now in
+    columns_passed file (all (number_at 2 file 4)) (number_at 2 file 6) c.in-At-multiplicities.first ≡ c.pass_columns-columns.result) =
+    rw (← c.u16_at-n.ensures, ← c.u16_at-m.ensures, ← c.all.ensures) (sym c.pass_columns-columns.ensures) in
+    checks _ (rw c.refusal-in_default-columns.ensures (columns_refused _ (passed_head c.before.before.before.before.before.before.before.before.before.before.before) (passed_multiplicities c.before.before.before.before.before) (rw c.in_default-columns.is (columns_are ∙ c.in_default-columns.is))))
 
 pub returns-in_default-last : goal.returns-in_default-last
 returns-in_default-last c =
-    checks _ (rw c.refusal-in_default-last.ensures (end_refused _ (passed_head c.before.before.before.before.before.before.before.before.before.before.before.before.before.before.before) (passed_multiplicities c.before.before.before.before.before.before.before.before.before) (columns_are c.before.before.before.before.before.before.before ∙ c.in-At-columns.is) (rw c.in_default-last.is (sym c.pass_end-last.ensures ∙ c.in_default-last.is))))
+    let columns_are : (    let file = c.args.file.now in
+    columns_passed file (all (number_at 2 file 4)) (number_at 2 file 6) c.in-At-multiplicities.first ≡ c.pass_columns-columns.result) =
+    rw (← c.u16_at-n.ensures, ← c.u16_at-m.ensures, ← c.all.ensures) (sym c.pass_columns-columns.ensures) in
+    checks _ (rw c.refusal-in_default-last.ensures (end_refused _ (passed_head c.before.before.before.before.before.before.before.before.before.before.before.before.before.before.before) (passed_multiplicities c.before.before.before.before.before.before.before.before.before) (columns_are ∙ c.in-At-columns.is) (rw c.in_default-last.is (sym c.pass_end-last.ensures ∙ c.in_default-last.is))))
 
 pub returns : goal.returns
 returns c =
-    checks _ (rw (c.u16_at-n.ensures, c.u16_at-m.ensures) (all_passed _ (passed_head c.before.before.before.before.before.before.before.before.before.before.before.before.before.before) (passed_multiplicities c.before.before.before.before.before.before.before.before) (columns_are c.before.before.before.before.before.before ∙ c.in-At-columns.is) (sym c.pass_end-last.ensures ∙ c.in-At-last.is)))
+    let columns_are : (    let file = c.args.file.now in
+    columns_passed file (all (number_at 2 file 4)) (number_at 2 file 6) c.in-At-multiplicities.first ≡ c.pass_columns-columns.result) =
+    rw (← c.u16_at-n.ensures, ← c.u16_at-m.ensures, ← c.all.ensures) (sym c.pass_columns-columns.ensures) in
+    checks _ (rw (c.u16_at-n.ensures, c.u16_at-m.ensures) (all_passed _ (passed_head c.before.before.before.before.before.before.before.before.before.before.before.before.before.before) (passed_multiplicities c.before.before.before.before.before.before.before.before) (columns_are ∙ c.in-At-columns.is) (sym c.pass_end-last.ensures ∙ c.in-At-last.is)))

@@ -10,15 +10,6 @@ use Rattle.taxa.proofs.Sums.{sum_next}
 use Rattle.matrix.proofs.Multiplying.{Some, some_next, at_multiplicity, some_none, too_heavy, all_one, multiplicities_taken}
 use Rattle.matrix.proofs.judge_multiplicities.Goals as goal
 
--- Where the loop ends, all were added up.
-ended : (c : goal.After-loop-i) →
-    let ms = c.args.multiplicities.now in
-    (c.loop-i.sum ≡ sums.sum (length ms) (sets.multiplicity ms)) × Some ms (length ms)
-ended c =
-    let ms = c.args.multiplicities.now in
-    let all : c.loop-i.i ≡ length ms = omega arith in
-    (rw all at c.loop-i.invariant.1, rw all at c.loop-i.invariant.3)
-
 pub loop-i-init : goal.loop-i-init
 unfolding sums.sum
 loop-i-init c = (omega arith, omega arith, omega arith, λ i b. absurd (omega arith))
@@ -29,10 +20,10 @@ returns-then-multiplicities-i-eq0 c =
     some_none _ _ _ i c.loop-i-test.true (omega (arith, at_multiplicity c.args.multiplicities.now i 0 c.loop-i-test.true))
 
 pub overflow_cast-sum : goal.overflow_cast-sum
-overflow_cast-sum c =omega (arith, c.type_inv.multiplicities c.loop-i.i)
+overflow_cast-sum c = omega (arith, c.type_inv.multiplicities c.loop-i.i)
 
 pub overflow_add-sum : goal.overflow_add-sum
-overflow_add-sum c =omega (arith, c.type_inv.multiplicities c.loop-i.i)
+overflow_add-sum c = omega (arith, c.type_inv.multiplicities c.loop-i.i)
 
 pub loop-i-preserved : goal.loop-i-preserved
 loop-i-preserved c =
@@ -42,10 +33,28 @@ loop-i-preserved c =
     (omega arith, omega (arith, sum_next i (sets.multiplicity ms), here), omega (arith, c.type_inv.multiplicities i), some_next ms i c.loop-i.invariant.3 (omega (arith, here)))
 
 pub returns-then-sum-gt127 : goal.returns-then-sum-gt127
-returns-then-sum-gt127 c = let (sum_is_lem, some) = ended c.before in too_heavy _ _ _ some (omega arith)
+returns-then-sum-gt127 c =
+    let ended : (let ms = c.args.multiplicities.now in
+    (c.loop-i.sum ≡ sums.sum (length ms) (sets.multiplicity ms)) × Some ms (length ms)) =
+        let ms = c.args.multiplicities.now in
+    let all : c.loop-i.i ≡ length ms = omega arith in
+    (rw all at c.loop-i.invariant.1, rw all at c.loop-i.invariant.3) in
+    let (sum_is_lem, some) = ended in too_heavy _ _ _ some (omega arith)
 
 pub returns-then-sum-multiplicities : goal.returns-then-sum-multiplicities
-returns-then-sum-multiplicities c = let (sum_is_lem, some) = ended c.before.before in all_one _ _ _ some (omega arith) (omega arith)
+returns-then-sum-multiplicities c =
+    let ended : (let ms = c.args.multiplicities.now in
+    (c.loop-i.sum ≡ sums.sum (length ms) (sets.multiplicity ms)) × Some ms (length ms)) =
+        let ms = c.args.multiplicities.now in
+    let all : c.loop-i.i ≡ length ms = omega arith in
+    (rw all at c.loop-i.invariant.1, rw all at c.loop-i.invariant.3) in
+    let (sum_is_lem, some) = ended in all_one _ _ _ some (omega arith) (omega arith)
 
 pub returns : goal.returns
-returns c = let (sum_is_lem, some) = ended c.before.before in multiplicities_taken _ _ _ some (omega arith) (omega arith)
+returns c =
+    let ended : (let ms = c.args.multiplicities.now in
+    (c.loop-i.sum ≡ sums.sum (length ms) (sets.multiplicity ms)) × Some ms (length ms)) =
+        let ms = c.args.multiplicities.now in
+    let all : c.loop-i.i ≡ length ms = omega arith in
+    (rw all at c.loop-i.invariant.1, rw all at c.loop-i.invariant.3) in
+    let (sum_is_lem, some) = ended in multiplicities_taken _ _ _ some (omega arith) (omega arith)

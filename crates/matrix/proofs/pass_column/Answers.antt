@@ -8,18 +8,22 @@ use Rattle.record.proofs.Steps.{held}
 use Rattle.matrix.specs.Check.{column_passed}
 use Rattle.matrix.proofs.pass_column.Goals as goal
 
--- What the step found is a column's step.
-found : (c : goal.After-read-step) → c.read-step.result ≡ step c.args.file.now c.args.here.at (record_of records.column)
-found c = rw (← c.of.ensures) c.read-step.ensures
-
 pub returns-in_default : goal.returns-in_default
 unfolding column_passed
-returns-in_default c = rw (c.refusal.ensures, ← found c.before.before.before, c.in_default.is)
+returns-in_default c =
+    let found : c.read-step.result ≡ step c.args.file.now c.args.here.at (record_of records.column) =
+        rw (← c.of.ensures) c.read-step.ensures in
+    rw (c.refusal.ensures, ← found, c.in_default.is)
 
 pub read-requires : goal.read-requires
-read-requires c = omega (arith, held (sym c.in-Payload.is ∙ found c.before.before.before))
+read-requires c =
+    let found : c.read-step.result ≡ step c.args.file.now c.args.here.at (record_of records.column) =
+        rw (← c.of.ensures) c.read-step.ensures in
+    omega (arith, held (sym c.in-Payload.is ∙ found))
 
 pub returns : goal.returns
 unfolding column_passed
 returns c =
+    let found : c.read-step.result ≡ step c.args.file.now c.args.here.at (record_of records.column) =
+        rw (← c.of.ensures) c.read-step.ensures in
     rw (c.judge.ensures, c.read.ensures, ← found c.before.before.before.before.before, c.in-Payload.is)

@@ -6,15 +6,16 @@ use Rattle.record.specs.Records.{step, record_of}
 use Rattle.matrix.specs.Check.{end_passed}
 use Rattle.matrix.proofs.pass_end.Goals as goal
 
--- What the step found is the end record's step.
-found : (c : goal.After-read-step) → c.read-step.result ≡ step c.args.file.now c.args.here.at (record_of records.matrix_end)
-found c = rw (← c.of.ensures) c.read-step.ensures
-
 pub returns-in_default : goal.returns-in_default
 unfolding end_passed
-returns-in_default c = rw (c.refusal.ensures, ← found c.before.before.before, c.in_default.is)
+returns-in_default c =
+    let found : c.read-step.result ≡ step c.args.file.now c.args.here.at (record_of records.matrix_end) =
+        rw (← c.of.ensures) c.read-step.ensures in
+    rw (c.refusal.ensures, ← found, c.in_default.is)
 
 pub returns : goal.returns
 unfolding end_passed
 returns c =
+    let found : c.read-step.result ≡ step c.args.file.now c.args.here.at (record_of records.matrix_end) =
+        rw (← c.of.ensures) c.read-step.ensures in
     rw (c.nothing_after.ensures, ← found c.before.before.before.before, c.in-Payload.is)

@@ -16,15 +16,14 @@ use Rattle.matrix.proofs.pass_multiplicities.Goals as goal
 is_there : (c : goal.Else-not-has_multiplicities) → has_multiplicities c.args.file.now ≡ true
 is_there c = sym c.has_multiplicities.ensures ∙ not-false _ c.if-not-has_multiplicities.false
 
-found : (c : goal.After-read-step) →
-    let args = c.args in
-    c.read-step.result ≡ step args.file.now args.here.at (multiplicity_record args.n)
-found c = rw (← c.multiplicities.ensures) c.read-step.ensures
-
 taken : (c : goal.In-Payload) →
     let args = c.args in
     Held args.file.now args.here.at (multiplicity_record args.n) c.in-Payload.at c.in-Payload.next
-taken c = held (sym c.in-Payload.is ∙ found c.before.before.before)
+taken c =
+    let found : (let args = c.args in
+    c.read-step.result ≡ step args.file.now args.here.at (multiplicity_record args.n)) =
+        rw (← c.multiplicities.ensures) c.read-step.ensures in
+    held (sym c.in-Payload.is ∙ found)
 
 pub returns-then-not-has_multiplicities : goal.returns-then-not-has_multiplicities
 unfolding multiplicities_passed
@@ -33,7 +32,10 @@ returns-then-not-has_multiplicities c = rw (sym c.has_multiplicities.ensures ∙
 pub returns-in_default : goal.returns-in_default
 unfolding multiplicities_passed
 returns-in_default c =
-    rw (c.refusal.ensures, is_there c.before.before.before.before.before, ← found c.before.before.before, c.in_default.is)
+    let found : (let args = c.args in
+    c.read-step.result ≡ step args.file.now args.here.at (multiplicity_record args.n)) =
+        rw (← c.multiplicities.ensures) c.read-step.ensures in
+    rw (c.refusal.ensures, is_there c.before.before.before.before.before, ← found, c.in_default.is)
 
 pub overflow_add-at : goal.overflow_add-at
 overflow_add-at c = omega (arith, taken c)
@@ -45,6 +47,9 @@ overflow_add-at c = omega (arith, taken c)
 pub returns : goal.returns
 unfolding multiplicities_passed
 returns c =
+    let found : (let args = c.args in
+    c.read-step.result ≡ step args.file.now args.here.at (multiplicity_record args.n)) =
+        rw (← c.multiplicities.ensures) c.read-step.ensures in
     let args = c.args in
     let n : c.in-Payload.at + args.n - c.in-Payload.at ≡ args.n = omega arith in
-    rw (is_there c.before.before.before.before.before.before.before, ← found c.before.before.before.before.before, c.in-Payload.is, ← n) c.judge_multiplicities.ensures
+    rw (is_there c.before.before.before.before.before.before.before, ← found, c.in-Payload.is, ← n) c.judge_multiplicities.ensures

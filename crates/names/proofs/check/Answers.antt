@@ -51,7 +51,7 @@ pub loop-passed-smaller : goal.loop-passed-smaller
 loop-passed-smaller c = omega (arith, (passing _ _ _ (passed c)).stands)
 
 pub loop-passed-preserved : goal.loop-passed-preserved
-loop-passed-preserved c =gone_on c.loop-passed.invariant (found c.before.before.before.before) (passed c)
+loop-passed-preserved c = gone_on c.loop-passed.invariant (found c.before.before.before.before) (passed c)
 
 pub returns-in_default-last : goal.returns-in_default-last
 returns-in_default-last c =

@@ -10,7 +10,7 @@ use Rattle.names.proofs.Walking.{in_first, in_others, in_none, place_one, place_
 use Rattle.names.proofs.is_repeat.Goals as goal
 
 -- Inside the loop there is another record, before the place.
-record-left : (c : goal.In-loop-left) →Whole c.args.file.now c.loop-left.at
+record-left : (c : goal.In-loop-left) → Whole c.args.file.now c.loop-left.at
 record-left c =
     let file = c.args.file.now in
     let at = c.loop-left in

@@ -20,4 +20,4 @@ loop-i-preserved c =
     (omega arith, rw (c.loop-i.invariant.1, spelt_next name c.loop-i.i (omega arith), sym c.is_letter.ensures ∙ not-false _ c.if-not-is_letter.false))
 
 pub returns : goal.returns
-returns c =rw (c.loop-i.invariant.1, spelt_end c.args.name.now c.loop-i.i (omega arith))
+returns c = rw (c.loop-i.invariant.1, spelt_end c.args.name.now c.loop-i.i (omega arith))

@@ -6,17 +6,18 @@ use Rattle.record.specs.Records.{step, record_of}
 use Rattle.names.specs.Check.{end_passed}
 use Rattle.names.proofs.pass_end.Goals as goal
 
--- What the step found is the end record's step.
-found : (c : goal.After-read-step) →
-    let args = c.args in
-    c.read-step.result ≡ step args.file.now args.here.at (record_of records.names_end)
-found c = rw (← c.of.ensures) c.read-step.ensures
-
 pub returns-in_default : goal.returns-in_default
 unfolding end_passed
-returns-in_default c = rw (c.refusal.ensures, ← found c.before.before.before, c.in_default.is)
+returns-in_default c =
+    let found : (let args = c.args in
+    c.read-step.result ≡ step args.file.now args.here.at (record_of records.names_end)) =
+        rw (← c.of.ensures) c.read-step.ensures in
+    rw (c.refusal.ensures, ← found, c.in_default.is)
 
 pub returns : goal.returns
 unfolding end_passed
 returns c =
+    let found : (let args = c.args in
+    c.read-step.result ≡ step args.file.now args.here.at (record_of records.names_end)) =
+        rw (← c.of.ensures) c.read-step.ensures in
     rw (c.nothing_after.ensures, ← found c.before.before.before.before, c.in-Payload.is)

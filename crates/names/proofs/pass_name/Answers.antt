@@ -17,18 +17,16 @@ use Rattle.names.proofs.Judging.{wrong_byte, repeated, name_taken, name_refused,
 use Rattle.names.proofs.Walking.{name_part}
 use Rattle.names.proofs.pass_name.Goals as goal
 
--- What the step found is a name's step.
-found : (c : goal.After-read_varying-step) →
-    let args = c.args in
-    c.read_varying-step.result ≡ varying_step args.file.now args.here.at any_name
-found c = rw (← c.any_name.ensures) c.read_varying-step.ensures
-
 -- The step that was taken.
 step_is : (c : goal.In-Payload) →
     let args = c.args in
     let read = c.step-1.given.0 in
     step.Payload read.0 read.1.0 ≡ varying_step args.file.now args.here.at any_name
-step_is c = sym c.in-Payload.is ∙ found c.before.before.before
+step_is c =
+    let found : (let args = c.args in
+    c.read_varying-step.result ≡ varying_step args.file.now args.here.at any_name) =
+        rw (← c.any_name.ensures) c.read_varying-step.ensures in
+    sym c.in-Payload.is ∙ found
 
 taken : (c : goal.In-Payload) →
     let args = c.args in
@@ -36,23 +34,23 @@ taken : (c : goal.In-Payload) →
     Held args.file.now args.here.at (sized records.name (number_at 2 args.file.now args.here.at)) read.0 read.1.0
 taken c = (varying_held any_name (step_is c)).1
 
--- What is tested is the name.
-spelt_is : (c : goal.After-is_spelt) →
-    let args = c.args in
-    c.is_spelt.result ≡ spelt (name_at args.file.now args.here.at)
-spelt_is c =
-    let args = c.args in
-    rw ((taken c.before.before).starts, name_part args.file.now args.here.at _ (taken c.before.before).moves) at c.is_spelt.ensures
-
 spelt_there : (c : goal.Else-not-is_spelt) →
     let args = c.args in
     spelt (name_at args.file.now args.here.at) ≡ true
-spelt_there c = sym (spelt_is c.before) ∙ not-false _ c.if-not-is_spelt.false
+spelt_there c =
+    let spelt_is : (let args = c.args in
+    c.is_spelt.result ≡ spelt (name_at args.file.now args.here.at)) =
+    let args = c.args in
+    rw ((taken c.before.before.before).starts, name_part args.file.now args.here.at _ (taken c.before.before.before).moves) at c.is_spelt.ensures in
+    sym (spelt_is) ∙ not-false _ c.if-not-is_spelt.false
 
 pub returns-in_default : goal.returns-in_default
 returns-in_default c =
+    let found : (let args = c.args in
+    c.read_varying-step.result ≡ varying_step args.file.now args.here.at any_name) =
+        rw (← c.any_name.ensures) c.read_varying-step.ensures in
     let told = c.in_default.is in
-    rw (c.refusal.ensures, told) (name_refused _ _ _ (sym told ∙ found c.before.before.before))
+    rw (c.refusal.ensures, told) (name_refused _ _ _ (sym told ∙ found))
 
 pub slice_bounds-is_spelt-count : goal.slice_bounds-is_spelt-count
 slice_bounds-is_spelt-count c = omega (arith, taken c)
@@ -67,7 +65,11 @@ slice_bounds-is_spelt-count c = omega (arith, taken c)
 
 pub returns-then-not-is_spelt : goal.returns-then-not-is_spelt
 returns-then-not-is_spelt c =
-    wrong_byte _ _ _ _ (sym (spelt_is c.before) ∙ not-true _ c.if-not-is_spelt.true) ∙ name_read _ _ _ _ (step_is c.before.before.before)
+    let spelt_is : (let args = c.args in
+    c.is_spelt.result ≡ spelt (name_at args.file.now args.here.at)) =
+    let args = c.args in
+    rw ((taken c.before.before.before).starts, name_part args.file.now args.here.at _ (taken c.before.before.before).moves) at c.is_spelt.ensures in
+    wrong_byte _ _ _ _ (sym (spelt_is) ∙ not-true _ c.if-not-is_spelt.true) ∙ name_read _ _ _ _ (step_is c.before.before.before)
 
 pub is_repeat-requires : goal.is_repeat-requires
 is_repeat-requires c = let t = taken c.before.before.before in record { follows = search rules; whole = omega arith }

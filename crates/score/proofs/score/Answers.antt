@@ -10,7 +10,7 @@ use Rattle.score.proofs.Scoring.{matrix_refused, answer_refused, both_read}
 use Rattle.score.proofs.score.Goals as goal
 
 -- The matrix was taken.
-checks : (c : goal.In-Taken-2) → Taken c.in-Taken.n c.in-Taken.m ≡ checked c.args.matrix.now
+checks : (c : goal.In-Taken) → Taken c.in-Taken.n c.in-Taken.m ≡ checked c.args.matrix.now
 checks c = sym c.in-Taken.is ∙ c.check-checked.ensures.answers
 
 -- And so was the answer.
@@ -19,13 +19,13 @@ passes c = sym c.in-At.is ∙ c.pass_file-passed.ensures
 
 pub returns-in_default : goal.returns-in_default
 returns-in_default c =
-    answer_refused _ _ (checks c.before.before.before.before.before) (ap Refused (c.refusal.ensures ∙ ap passed_refusal c.in_default.is) ∙ sym c.in_default.is ∙ c.pass_file-passed.ensures)
+    answer_refused _ _ (checks c.before.before.before.before) (ap Refused (c.refusal.ensures ∙ ap passed_refusal c.in_default.is) ∙ sym c.in_default.is ∙ c.pass_file-passed.ensures)
 
 pub score_read-requires : goal.score_read-requires
-score_read-requires c = record { taken = checks c.before.before.before.before; here = _; passes = passes c }
+score_read-requires c = record { taken = checks c.before.before.before; here = _; passes = passes c }
 
 pub returns-in-Refused : goal.returns-in-Refused
-returns-in-Refused c =matrix_refused _ _ (sym c.in-Refused.is ∙ c.check-checked.ensures.answers)
+returns-in-Refused c = matrix_refused _ _ (sym c.in-Refused.is ∙ c.check-checked.ensures.answers)
 
 pub returns-in-At : goal.returns-in-At
-returns-in-At c =both_read _ _ (checks c.before.before.before.before.before) (passes c.before) c.score_read.ensures
+returns-in-At c = both_read _ _ (checks c.before.before.before.before) (passes c.before) c.score_read.ensures

@@ -12,7 +12,7 @@ returns-then-it-eq0 c =
     rw (without_ones _ given.it given.node (omega arith)) ((omega arith, omega arith), (omega arith, omega arith))
 
 pub weighed-requires : goal.weighed-requires
-weighed-requires c =omega (arith, flips_few _ _ c.args.node c.requires.2)
+weighed-requires c = omega (arith, flips_few _ _ c.args.node c.requires.2)
 
 pub weighed-requires-2 : goal.weighed-requires-2
 weighed-requires-2 c =

@@ -12,29 +12,11 @@ use Rattle.search.proofs.Workspace.{kept_none}
 use Rattle.search.proofs.Trying.{lower_fits, lower_off, lower_in, tried_skip, tried_tied, tried_better, tried_worse}
 use Rattle.search.proofs.attempt.Goals as goal
 
--- The way back to the start, and that u is in the group.
-abbrev begun : goal.Else-not-contains → goal.Start
-begun c = c.before.before.before
-
-in_group : (c : goal.Else-not-contains) → has (begun c).args.group (begun c).args.u ≡ true
+in_group : (c : goal.Else-not-contains) → has c.args.group c.args.u ≡ true
 in_group c = sym c.contains.ensures ∙ not-false c.contains.result c.if-not-contains.false
 
--- The taxa of the group below it.
-abbrev tested : goal.After-common → goal.Else-not-contains
-tested c = c.before.before.before.before.before.before.before.before
-
-is_lower : (c : goal.After-common) → let a = (begun (tested c)).args in c.common.result ≡ a.group ∩ all a.u
+is_lower : (c : goal.After-common) → let a = c.args in c.common.result ≡ a.group ∩ all a.u
 is_lower c = rw c.all.ensures at c.common.ensures
-
--- The way back from the flow.
-abbrev lowered : goal.After-largest-cut → goal.After-common
-lowered c = c.before
-
--- A largest flow from those taxa.
-is_largest : (c : goal.After-largest-cut) →
-    let a = (begun (tested (lowered c))).args in
-    Largest a.weights.now a.planes.now a.joined.now a.limits.now a.n a.m c.largest-cut.new.1.1.1.1.1.1.1.0 (a.group ∩ all a.u) a.u a.best.cost c.largest-cut.result.size c.largest-cut.result.side
-is_largest c = rw (is_lower (lowered c)) at c.largest-cut.ensures.0
 
 pub returns-then-not-contains : goal.returns-then-not-contains
 returns-then-not-contains c =
@@ -44,24 +26,28 @@ returns-then-not-contains c =
 
 pub returns-then-best-limits : goal.returns-then-best-limits
 returns-then-best-limits c =
-    let a = (begun c.before.before.before).args in
-    let p = (begun c.before.before.before).requires in
-    (λ bound r. tried_tied r p.0 p.4 (omega (arith, p.6.ties_at (begun c.before.before.before).args.u (in_group c.before.before.before.before), c.if-best-limits.true)), kept_none (sizes a.m (nth a.joined.now)) a.ws.now, p.5)
+    let a = c.args in
+    let p = c.requires in
+    (λ bound r. tried_tied r p.0 p.4 (omega (arith, p.6.ties_at c.args.u (in_group c.before.before.before.before), c.if-best-limits.true)), kept_none (sizes a.m (nth a.joined.now)) a.ws.now, p.5)
 
 pub largest-cut-requires : goal.largest-cut-requires
 largest-cut-requires c =
-    let start = begun (tested c) in
-    let p = start.pre in
-    (p.0, p.1, rw (is_lower c) (lower_fits start.args.group p.4), p.4, rw (is_lower c) (lower_off start.args.group start.args.u), p.5)
+    let p = c.requires in
+    (p.0, p.1, rw (is_lower c) (lower_fits c.args.group p.4), p.4, rw (is_lower c) (lower_off c.args.group c.args.u), p.5)
 
 pub returns-then-cut-best : goal.returns-then-cut-best
 returns-then-cut-best c =
-    let x = tested (lowered c.before.before.before.before) in
-    let a = (begun x).args in
-    let p = (begun x).pre in
-    let s = low_in a.n (in_pos (record { is = in_group x })) p.2 in
-    (λ bound r. tried_better r (is_largest c.before.before.before.before) p.4 p.0.taxa (lower_in a.group s.is p.3) (in_group x) (omega arith), c.largest-cut.ensures.1, c.largest-cut.ensures.2)
+    let is_largest : (let a = c.args in
+    Largest a.weights.now a.planes.now a.joined.now a.limits.now a.n a.m c.largest-cut.new.1.1.1.1.1.1.1.0 (a.group ∩ all a.u) a.u a.best.cost c.largest-cut.result.size c.largest-cut.result.side) =
+        rw (is_lower c.before.before.before.before.before) at c.largest-cut.ensures.0 in
+    let a = c.args in
+    let p = c.requires in
+    let s = low_in a.n (in_pos (record { is = in_group c.before.before.before.before.before.before.before.before.before.before.before.before.before.before })) p.2 in
+    (λ bound r. tried_better r (is_largest) p.4 p.0.taxa (lower_in a.group s.is p.3) (in_group c.before.before.before.before.before.before.before.before.before.before.before.before.before.before) (omega arith), c.largest-cut.ensures.1, c.largest-cut.ensures.2)
 
 pub returns-else-cut-best : goal.returns-else-cut-best
 returns-else-cut-best c =
-    (λ bound r. tried_worse r (is_largest c.before.before.before.before) (omega arith), c.largest-cut.ensures.1, c.largest-cut.ensures.2)
+    let is_largest : (let a = c.args in
+    Largest a.weights.now a.planes.now a.joined.now a.limits.now a.n a.m c.largest-cut.new.1.1.1.1.1.1.1.0 (a.group ∩ all a.u) a.u a.best.cost c.largest-cut.result.size c.largest-cut.result.side) =
+        rw (is_lower c.before.before.before.before.before) at c.largest-cut.ensures.0 in
+    (λ bound r. tried_worse r (is_largest) (omega arith), c.largest-cut.ensures.1, c.largest-cut.ensures.2)

@@ -14,22 +14,15 @@ use Rattle.search.proofs.Bonds.{weighs_small}
 use Rattle.search.proofs.Trying.{trying_start, trying_end}
 use Rattle.search.proofs.cheapest.Goals as goal
 
--- The way back from the bound to the start, and from the loop to it.
-abbrev begun : goal.After-bound_of-bound → goal.Start
-begun c = c.before.before.before
-
-abbrev bounded : goal.At-loop-u → goal.After-bound_of-bound
-bounded c = c.before.before
-
-some : (c : goal.Start) → 0 < c.args.group
+some : (c : goal.After-shared_slice_known-1) → 0 < c.args.group
 some c = count_pos c.args.n (omega (arith, c.requires.3))
 
 -- The lowest of 64 taxa is that of n.
-is_low : (c : goal.After-lowest-s) → let a = (begun c.before).args in c.lowest-s.result ≡ low a.n a.group
-is_low c = let start = begun c.before in c.lowest-s.ensures.0 ∙ sym (low_width start.pre.0.taxa (some start) start.pre.2)
+is_low : (c : goal.After-lowest-s) → let a = c.args in c.lowest-s.result ≡ low a.n a.group
+is_low c = c.lowest-s.ensures.0 ∙ sym (low_width c.requires.0.taxa (some c.before.before) c.requires.2)
 
-low_small : (c : goal.After-lowest-s) → let a = (begun c.before).args in low a.n a.group < a.n
-low_small c = let start = begun c.before in below start.args.n start.pre.2 (low_in start.args.n (some start) start.pre.2)
+low_small : (c : goal.After-lowest-s) → let a = c.args in low a.n a.group < a.n
+low_small c = below c.args.n c.requires.2 (low_in c.args.n (some c.before.before) c.requires.2)
 
 pub bound_of-bound-requires : goal.bound_of-bound-requires
 bound_of-bound-requires c =
@@ -43,9 +36,8 @@ bound_of-bound-requires c =
 
 pub loop-u-init : goal.loop-u-init
 loop-u-init c =
-    let start = begun c.before in
-    let a = start.args in
-    let p = start.pre in
+    let a = c.args in
+    let p = c.requires in
     rw (is_low c) (
       omega arith,
       omega (arith, low_small c),
@@ -56,7 +48,7 @@ loop-u-init c =
 
 pub attempt-best-requires : goal.attempt-best-requires
 attempt-best-requires c =
-    let p = (begun (bounded c.before.before.before.before)).pre in
+    let p = c.requires in
     let v = c.loop-u.invariant in
     (p.0, omega (arith, p.1, v.3.long), p.2, v.0, omega arith, v.4, p.5)
 
@@ -64,24 +56,23 @@ pub loop-u-preserved : goal.loop-u-preserved
 loop-u-preserved c =
     let v = c.loop-u.invariant in
     let a = c.attempt-best.ensures in
-    (omega (arith, v.0), omega arith, a.0 (bounded c.before.before.before.before.before.before).bound_of.result v.2, kept_then v.3 a.1, a.2)
+    (omega (arith, v.0), omega arith, a.0 c.bound_of-bound.result v.2, kept_then v.3 a.1, a.2)
 
 pub returns : goal.returns
 returns c =
     let v = c.loop-u in
-    let start = begun (bounded c.before) in
-    let p = start.pre in
-    let e : v.u ≡ start.args.n = omega arith in
-    (trying_end p.0.taxa p.2 (rw e at v.invariant.2) p.6 (bounded c.before).bound_of.ensures, v.invariant.3, v.invariant.4)
+    let p = c.requires in
+    let e : v.u ≡ c.args.n = omega arith in
+    (trying_end p.0.taxa p.2 (rw e at v.invariant.2) p.6 c.bound_of-bound.ensures, v.invariant.3, v.invariant.4)
 
 pub lowest-s-requires : goal.lowest-s-requires
-lowest-s-requires c = some (begun c)
+lowest-s-requires c = some c.before
 
 pub overflow_step-u : goal.overflow_step-u
 overflow_step-u c = omega (arith, c.lowest-s.ensures.1)
 
 pub overflow_step-u-in-loop-u : goal.overflow_step-u-in-loop-u
-overflow_step-u-in-loop-u c = omega (arith, (begun (bounded c.before.before.before.before.before.before)).pre.0.taxa, c.loop-u-test.true)
+overflow_step-u-in-loop-u c = omega (arith, c.requires.0.taxa, c.loop-u-test.true)
 
 pub shape_of-ws : goal.shape_of-ws
 shape_of-ws c = c.loop-u.invariant.3.long

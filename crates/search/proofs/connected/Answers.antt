@@ -7,22 +7,17 @@ use Rattle.taxa.proofs.Digits.{has_none}
 use Rattle.search.proofs.Flows.{no_ready}
 use Rattle.search.proofs.connected.Goals as goal
 
--- All columns have no net flow.
-abbrev none : goal.After-clear_places → goal.Start
-none c = c.before.before.before
-
 pub reach-requires : goal.reach-requires
 reach-requires c =
-    let start = none c.before.before.before.before.before.before in
-    let p = start.pre in
-    (rw (c.clear_places.ensures, p.0.offsets.is start.args.m (omega arith)) (no_ready p.0 start.args.ws.now p.1 c.unused.ensures), p.3.tree, p.2)
+    let p = c.requires in
+    (rw (c.clear_places.ensures, p.0.offsets.is c.args.m (omega arith)) (no_ready p.0 c.args.ws.now p.1 c.unused.ensures), p.3.tree, p.2)
 
 pub returns : goal.returns
 returns c =
     let f = c.reach.ensures in
-    let start = none c.before.before.before.before.before.before.before in (
+    (
       record { low = f.0.tree.low; all = f.0.all (record { none = λ x h. absurd (true≢false (sym h ∙ has_none x)) }) },
-      rw (start.pre.0.offsets.is start.args.m (omega arith)) at c.clear_places.ensures,
+      rw (c.requires.0.offsets.is c.args.m (omega arith)) at c.clear_places.ensures,
       record { counts = c.unused.ensures.long; tree = f.1 },
     )
 

@@ -25,13 +25,6 @@ some_count {x} f =
       | no n ↦ le-ltb 0 x (omega (arith, count_zero 64 f (omega arith))) ∙ sym (le-ltb 0 (count 64 x) (omega arith))
     ]
 
--- The way back from the last call of a turn to the turn's start.
-abbrev turned : goal.After-mass_in → goal.At-loop-c
-turned c = c.before.before.before.before.before.before.before.before.before
-
-abbrev begun : goal.At-loop-c → goal.Start
-begun c = c.before.before.before.before
-
 pub loop-c-init : goal.loop-c-init
 loop-c-init c =
     let a = c.args in
@@ -45,12 +38,11 @@ overflow_mul-limits c =
 
 pub loop-c-preserved : goal.loop-c-preserved
 loop-c-preserved c =
-    let start = begun (turned c) in
-    let a = start.args in
-    let v = (turned c).loop.invariant in
-    let b : (turned c).loop.c < 256 = omega (arith, start.pre.0) in
+    let a = c.args in
+    let v = c.loop-c.invariant in
+    let b : c.loop-c.c < 256 = omega (arith, c.requires.0) in
     let z = c.common in
-    let fits : z.result < 2 ^ 64 = omega (arith, z.ensures, ∩-≤ (nth a.zeros.now (turned c).loop.c) a.group, start.fits.group.fits) in (
+    let fits : z.result < 2 ^ 64 = omega (arith, z.ensures, ∩-≤ (nth a.zeros.now c.loop-c.c) a.group, c.fits.group.fits) in (
       omega arith,
       table_next v.1 b (c.unless_none.ensures ∙ ap₂ (λ (t : Bool) (x : ℕ). cond t x 0) (some_count fits ∙ ap (λ (x : ℕ). ltb 0 (count 64 x)) z.ensures) c.common.ensures),
       table_next v.2 (omega (arith, b)) (ap₂ (λ (x y : ℕ). x * y) c.wide.ensures.0 (c.mass_in.ensures.0 ∙ ap (mass 64 (multiplicity_in a.planes.now)) z.ensures)),

@@ -10,18 +10,15 @@ use Rattle.search.specs.Search.{nth}
 use Rattle.search.proofs.Tables.{Table, table_start, table_next}
 use Rattle.search.proofs.offsets_of.Goals as goal
 
-abbrev turned : goal.After-size → goal.At-loop-c
-turned c = c.before.before.before
-
 -- The sum with the next column's: at most 64 for each column.
 next : (c : goal.After-size) →
-    let l = (turned c).loop in
-    let row = nth (turned c).before.args.joined.now in
+    let l = c.loop-c in
+    let row = nth c.args.joined.now in
     l.sum + c.size.result ≡ sizes (l.c + 1) row
-next c = let row = nth (turned c).before.args.joined.now in omega (arith, c.size.ensures, sizes_next row (turned c).loop.c, (turned c).loop.invariant.1)
+next c = let row = nth c.args.joined.now in omega (arith, c.size.ensures, sizes_next row c.loop-c.c, c.loop-c.invariant.1)
 
-few : (c : goal.After-size) → (turned c).loop.sum + c.size.result ≤ 16384
-few c = let l = turned c in omega (arith, next c, sizes_few (nth l.before.args.joined.now) (l.loop.c + 1), c.loop-c-test.true, l.before.pre.0)
+few : (c : goal.After-size) → c.loop-c.sum + c.size.result ≤ 16384
+few c = omega (arith, next c, sizes_few (nth c.args.joined.now) (c.loop-c.c + 1), c.loop-c-test.true, c.requires.0)
 
 pub loop-c-init : goal.loop-c-init
 unfolding sizes sum
@@ -29,8 +26,8 @@ loop-c-init c = (omega arith, refl, table_start (λ e. sizes e (nth c.args.joine
 
 pub loop-c-preserved : goal.loop-c-preserved
 loop-c-preserved c =
-    let l = (turned c).loop in
-    (omega arith, next c, table_next l.inv.2 (omega (arith, (turned c).before.requires.0)) l.inv.1)
+    let l = c.loop-c in
+    (omega arith, next c, table_next l.inv.2 (omega (arith, c.requires.0)) l.inv.1)
 
 pub returns : goal.returns
 returns c =

@@ -12,13 +12,9 @@ use Rattle.spelling.proofs.write.Goals as goal
 passes : (c : goal.In-At) → At c.in-At.field-0 ≡ file_tests c.args.answer.now
 passes c = sym c.in-At.is ∙ c.pass_file-passed.ensures
 
--- and so was the list.
-abbrev start : goal.In-Taken-2 → goal.Start
-start c = c.before.before.before.before.before.before.before.before.before
-
-both : (c : goal.In-Taken-2) → Readable (start c).args.answer.now (start c).args.list.now c.in-Taken.count
+both : (c : goal.After-write_read-arg-1) → Readable c.args.answer.now c.args.list.now c.in-Taken.count
 both c =
-    record { here = _; passes = passes c.before.before.before; taken = sym c.in-Taken.is ∙ c.check-listed.ensures.answers }
+    record { here = _; passes = passes c.before.before.before.before.before; taken = sym c.in-Taken.is ∙ c.check-listed.ensures.answers }
 
 pub returns-in_default : goal.returns-in_default
 returns-in_default c =
@@ -26,11 +22,11 @@ returns-in_default c =
     answer_refused _ _ _ (ap Refused (c.refusal.ensures ∙ ap passed_refusal told) ∙ sym told ∙ c.pass_file-passed.ensures)
 
 pub returns-in-Taken : goal.returns-in-Taken
-returns-in-Taken c =both_read _ _ _ (both c.before.before.before.before.before) c.write_read.ensures.0 c.write_read.ensures.1
+returns-in-Taken c = both_read _ _ _ (both c.before.before.before) c.write_read.ensures.0 c.write_read.ensures.1
 
 pub returns-in-Refused : goal.returns-in-Refused
 returns-in-Refused c =
     list_refused _ _ _ (passes c.before.before.before.before) (sym c.in-Refused.is ∙ c.check-listed.ensures.answers)
 
 pub write_read-requires : goal.write_read-requires
-write_read-requires c = both c.before.before
+write_read-requires c = both c

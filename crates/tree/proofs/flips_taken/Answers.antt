@@ -21,67 +21,46 @@ use Rattle.tree.proofs.FlipsRows.{disagree_row, lack_row, differs_row, whole_row
 use Rattle.tree.proofs.flips_taken.Goals as goal
 
 -- The matrix file is one of bytes.
-bytes : (c : goal.After-shared_slice_known-1) → File c.args.file.now
+bytes : (c : goal.After-slice_known-1) → File c.args.file.now
 bytes c = record { byte = λ i. omega (arith, c.type_inv.file i) }
 -- ---- what was tested
 
-abbrev entry : goal.After-agrees → goal.After-shared_slice_known-1
-entry c = c.before.before.before
-
-abbrev begun : goal.After-lack-lack → goal.Start
-begun c = (entry c.before.before.before.before).before
-
 agree : (c : goal.Else-not-agrees)
-    → let a = (entry c.before).before.args in (eqb (content_in a.tree.now).n a.n && eqb (content_in a.tree.now).m a.m) ≡ true
+    → let a = c.args in (eqb (content_in a.tree.now).n a.n && eqb (content_in a.tree.now).m a.m) ≡ true
 agree c = sym c.agrees.ensures ∙ not-false _ c.if-not-agrees.false
 
-lack_is : (c : goal.After-lack-lack) → let a = (begun c).args in
-    c.lack-lack.result ≡ lacking (length a.workspace.now) (one_entries (matrix_in a.file.now)) (length a.out.now) (room_for a.n a.m)
-lack_is c =
-    let a = (begun c).args in
+lent : (c : goal.After-zeros-1)
+    → let a = c.args in (one_entries (matrix_in a.file.now) ≤ length a.workspace.now) × (room_for a.n a.m ≤ length a.out.now)
+lent c =
+    let lack_is : (let a = c.args in
+    c.lack-lack.result ≡ lacking (length a.workspace.now) (one_entries (matrix_in a.file.now)) (length a.out.now) (room_for a.n a.m)) =
+        let a = c.args in
     c.lack-lack.ensures ∙ (λ i. lacking (length a.workspace.now) (c.one_entries-needed.ensures i) (length a.out.now)
-    (c.answer_room-wanted.ensures i))
+    (c.answer_room-wanted.ensures i)) in
+    enough _ _ _ _ (omega (arith, lack_is, c.if-lack-ne0.false))
 
-lent : (c : goal.Else-lack-ne0)
-    → let a = (begun c.before).args in (one_entries (matrix_in a.file.now) ≤ length a.workspace.now) × (room_for a.n a.m ≤ length a.out.now)
-lent c = enough _ _ _ _ (omega (arith, lack_is c.before, c.if-lack-ne0.false))
+growable : (c : goal.After-zeros-1) → let a = c.args in Growable a.file.now a.n a.m (length a.workspace.now)
+growable c = record { taken = c.requires.0; places = (lent c).0 }
 
-growable : (c : goal.Else-lack-ne0) → let a = (begun c.before).args in Growable a.file.now a.n a.m (length a.workspace.now)
-growable c = record { taken = (begun c.before).requires.0; places = (lent c).0 }
-
-abbrev tested : goal.After-grow_tree-own → goal.Else-lack-ne0
-tested c = c.before.before.before.before
-
-whole_file : (c : goal.After-grow_tree-own) → File (begun (tested c).before).args.file.now
-whole_file c = bytes (entry (tested c).before.before.before.before.before)
-
--- Whether the tree file is the first's.
-abbrev grown : goal.After-is_tree → goal.After-grow_tree-own
-grown c = c.before.before
-
-firsts : (c : goal.After-is_tree) → let a = (begun (tested (grown c)).before).args in equal a.tree.now (tree_file a.file.now) ≡ c.is_tree.result
-firsts c =
-    let a = (begun (tested (grown c)).before).args in
-    sym (c.is_tree.ensures ∙ ap (λ (x : Content). equal a.tree.now (file_of x)) (grown c).grow-tree.ensures.0.tree)
--- ---- what the calls ask for
+whole_file : (c : goal.After-workspace-1) → File c.args.file.now
+whole_file c = bytes c.before.before.before.before.before.before.before.before.before.before.before
 
 pub one_entries-needed-requires : goal.one_entries-needed-requires
 one_entries-needed-requires c =
-    let at = entry c.before in
-    let fits = can_load (bytes at) at.before.pre.0 refl in
-    (fits.0, fits.1, few_columns (bytes at) at.before.pre.0)
+    let fits = can_load (bytes c.before.before) c.requires.0 refl in
+    (fits.0, fits.1, few_columns (bytes c.before.before) c.requires.0)
 
 pub answer_room-wanted-requires : goal.answer_room-wanted-requires
-answer_room-wanted-requires c = let at = entry c.before.before in some_taxa (bytes at) at.before.pre.0
+answer_room-wanted-requires c = some_taxa (bytes c.before.before.before) c.requires.0
 
 pub grow_tree-own-requires : goal.grow_tree-own-requires
-grow_tree-own-requires c =(growable c.before.before.before, c.one_entries-needed.ensures)
+grow_tree-own-requires c = (growable c, c.one_entries-needed.ensures)
 
 -- ---- the returns
 pub is_tree-requires : goal.is_tree-requires
 is_tree-requires c =
     let g = c.grow_tree-own.ensures.0 in
-    let (written, fits) = fits_any (whole_file c.before) (growable (tested c.before)) g in
+    let (written, fits) = fits_any (whole_file c) (growable c.before.before) g in
     (g.none, written, fits)
 
 pub returns-then-not-agrees : goal.returns-then-not-agrees
@@ -90,23 +69,32 @@ returns-then-not-agrees c =
 
 pub returns-then-lack-ne0 : goal.returns-then-lack-ne0
 returns-then-lack-ne0 c =
-    rw c.refused-then-lack-ne0.ensures (lack_row _ _ _ _ _ _ _ _ (agree c.before.before.before.before.before) (lack_is c.before.before) (λ e. c.if-lack-ne0.true e))
+    let lack_is : (let a = c.args in
+    c.lack-lack.result ≡ lacking (length a.workspace.now) (one_entries (matrix_in a.file.now)) (length a.out.now) (room_for a.n a.m)) =
+        let a = c.args in
+    c.lack-lack.ensures ∙ (λ i. lacking (length a.workspace.now) (c.one_entries-needed.ensures i) (length a.out.now)
+    (c.answer_room-wanted.ensures i)) in
+    rw c.refused-then-lack-ne0.ensures (lack_row _ _ _ _ _ _ _ _ (agree c.before.before.before.before.before) (lack_is) (λ e. c.if-lack-ne0.true e))
 
 pub returns-then-not-is_tree : goal.returns-then-not-is_tree
 returns-then-not-is_tree c =
-    let at = grown c.before.before in
-    let (long, fits) = lent (tested at) in
+    let firsts : (let a = c.args in equal a.tree.now (tree_file a.file.now) ≡ c.is_tree.result) =
+        let a = c.args in
+    sym (c.is_tree.ensures ∙ ap (λ (x : Content). equal a.tree.now (file_of x)) c.grow_tree-own.ensures.0.tree) in
+    let (long, fits) = lent c.before.before.before.before.before in
     rw c.refused-then-not-is_tree.ensures
-    (differs_row _ _ _ _ _ _ _ _ (agree (tested at).before.before.before.before) long fits at.grow-tree.ensures.1
-    (firsts c.before.before ∙ not-true _ c.if-not-is_tree.true))
+    (differs_row _ _ _ _ _ _ _ _ (agree c.before.before.before.before.before.before.before.before.before.before.before.before) long fits c.grow_tree-own.ensures.1
+    (firsts ∙ not-true _ c.if-not-is_tree.true))
 
 pub returns : goal.returns
 returns c =
-    let at = grown c.before.before.before.before.before.before.before in
-    let (long, fits) = lent (tested at) in
-    whole_row _ _ _ _ _ _ _ _ (agree (tested at).before.before.before.before) long fits at.grow-tree.ensures.1
-    (firsts c.before.before.before.before.before.before.before ∙ not-false _ c.if-not-is_tree.false)
-    (answers_all c.write_whole.ensures (whole_is at.grow-tree.ensures.0) (whole_written (whole_file at) (growable (tested at)) _ fits))
+    let firsts : (let a = c.args in equal a.tree.now (tree_file a.file.now) ≡ c.is_tree.result) =
+        let a = c.args in
+    sym (c.is_tree.ensures ∙ ap (λ (x : Content). equal a.tree.now (file_of x)) c.grow_tree-own.ensures.0.tree) in
+    let (long, fits) = lent c.before.before.before.before.before.before.before.before.before.before in
+    whole_row _ _ _ _ _ _ _ _ (agree c.before.before.before.before.before.before.before.before.before.before.before.before.before.before.before.before.before) long fits c.grow_tree-own.ensures.1
+    (firsts ∙ not-false _ c.if-not-is_tree.false)
+    (answers_all c.write_whole.ensures (whole_is c.grow_tree-own.ensures.0) (whole_written (whole_file c.before.before.before.before.before.before.before.before) (growable c.before.before.before.before.before.before.before.before.before.before) _ fits))
 
 pub agrees-requires : goal.agrees-requires
 agrees-requires c = c.requires.1

@@ -12,37 +12,45 @@ use Rattle.answer.proofs.Walks.{walk_none, walk_more, walk_stops, given_entry}
 use native.Mathlib.Omega.{arith}
 use Rattle.answer.proofs.given.given_flips.Goals as goal
 
--- What was met is flips j as given.
-tested : (c : goal.After-judge-passed) →
-    let l = c.loop-j in
-    let s = c.args in
-    c.judge-passed.result ≡ flips_test as_given s.n s.m s.columns.now s.raised.now s.lowered.now l.j l.here
-unfolding entry_test
-tested c = rw (c.judge-passed.ensures, c.past.ensures, c.entry_fault-fault.ensures, c.loop-j.invariant.2)
-
 -- Where it passed, it keeps its rules.
-keeps : (c : goal.In-At-2) →
+keeps : (c : goal.In-At) →
     let l = c.loop-j in
     let s = c.args in
     EntryKept s.n s.m (floor_of s.columns.now l.j) (get_or s.columns.now l.j 0) (get_or s.raised.now l.j 0) (get_or s.lowered.now l.j 0)
-keeps c = entry_keeps _ _ _ _ _ _ (given_entry _ _ _ _ _ _ _ (sym c.in-At.is ∙ tested c.before.before)).0
+unfolding entry_test
+keeps c =
+    let tested : (let l = c.loop-j in
+    let s = c.args in
+    c.judge-passed.result ≡ flips_test as_given s.n s.m s.columns.now s.raised.now s.lowered.now l.j l.here) =
+        rw (c.judge-passed.ensures, c.past.ensures, c.entry_fault-fault.ensures, c.loop-j.invariant.2) in
+    entry_keeps _ _ _ _ _ _ (given_entry _ _ _ _ _ _ _ (sym c.in-At.is ∙ tested)).0
 
 pub loop-j-init : goal.loop-j-init
 unfolding floor_of
 loop-j-init c = (search rules, search rules, refl, walk_none _ _)
 
 pub returns-in_default : goal.returns-in_default
+unfolding entry_test
 returns-in_default c =
+    let tested : (let l = c.loop-j in
+    let s = c.args in
+    c.judge-passed.result ≡ flips_test as_given s.n s.m s.columns.now s.raised.now s.lowered.now l.j l.here) =
+        rw (c.judge-passed.ensures, c.past.ensures, c.entry_fault-fault.ensures, c.loop-j.invariant.2) in
     let l = c.loop-j in
-    c.in_default.is ∙ walk_stops _ _ _ l.j (omega arith) l.invariant.3 (sym c.in_default.is ∙ tested c.before.before)
+    c.in_default.is ∙ walk_stops _ _ _ l.j (omega arith) l.invariant.3 (sym c.in_default.is ∙ tested)
 
 pub overflow_add-floor : goal.overflow_add-floor
-overflow_add-floor c = omega (arith, keeps c.before.before)
+overflow_add-floor c = omega (arith, keeps c.before)
 
 pub loop-j-preserved : goal.loop-j-preserved
+unfolding entry_test
 loop-j-preserved c =
+    let tested : (let l = c.loop-j in
+    let s = c.args in
+    c.judge-passed.result ≡ flips_test as_given s.n s.m s.columns.now s.raised.now s.lowered.now l.j l.here) =
+        rw (c.judge-passed.ensures, c.past.ensures, c.entry_fault-fault.ensures, c.loop-j.invariant.2) in
     let l = c.loop-j in
-    let e = sym c.in-At.is ∙ tested c.before.before.before.before in
+    let e = sym c.in-At.is ∙ tested in
     (omega arith, omega (arith, (given_entry _ _ _ _ _ _ _ e).1), floor_next _ l.j, e ∙ walk_more _ _ l.j l.invariant.3)
 
 pub returns : goal.returns

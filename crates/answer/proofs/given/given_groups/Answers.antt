@@ -8,26 +8,28 @@ use Rattle.answer.proofs.Walks.{walk_none, walk_more, walk_stops, given_group}
 use native.Mathlib.Omega.{arith}
 use Rattle.answer.proofs.given.given_groups.Goals as goal
 
--- What was met is group i as given.
-tested : (c : goal.After-judge-passed) →
-    let l = c.loop-i in
-    let s = c.args in
-    c.judge-passed.result ≡ group_test as_given s.n s.taxa.now l.i l.here
-unfolding group_test
-tested c = rw (c.judge-passed.ensures, c.past.ensures, c.group_fault.ensures)
-
 pub loop-i-init : goal.loop-i-init
 loop-i-init c = (search rules, search rules, walk_none _ _)
 
 pub returns-in_default : goal.returns-in_default
+unfolding group_test
 returns-in_default c =
+    let tested : (let l = c.loop-i in
+    let s = c.args in
+    c.judge-passed.result ≡ group_test as_given s.n s.taxa.now l.i l.here) =
+        rw (c.judge-passed.ensures, c.past.ensures, c.group_fault.ensures) in
     let l = c.loop-i in
-    c.in_default.is ∙ walk_stops _ _ _ l.i (omega arith) l.invariant.2 (sym c.in_default.is ∙ tested c.before.before)
+    c.in_default.is ∙ walk_stops _ _ _ l.i (omega arith) l.invariant.2 (sym c.in_default.is ∙ tested)
 
 pub loop-i-preserved : goal.loop-i-preserved
+unfolding group_test
 loop-i-preserved c =
+    let tested : (let l = c.loop-i in
+    let s = c.args in
+    c.judge-passed.result ≡ group_test as_given s.n s.taxa.now l.i l.here) =
+        rw (c.judge-passed.ensures, c.past.ensures, c.group_fault.ensures) in
     let l = c.loop-i in
-    let passed = sym c.in-At.is ∙ tested c.before.before.before in
+    let passed = sym c.in-At.is ∙ tested in
     (omega arith, omega (arith, (given_group _ _ _ _ passed).1), passed ∙ walk_more _ _ l.i l.invariant.2)
 
 pub returns : goal.returns

@@ -18,18 +18,8 @@ use native.Mathlib.Omega.{arith}
 use Rattle.answer.proofs.reader.pass_flips.Invariants.{one}
 use Rattle.answer.proofs.reader.pass_flips.Goals as goal
 
--- What was met is flips j of the file.
-tested : (c : goal.After-pass_entry-passed) →
-    let s = c.args in
-    let l = c.loop-j in
-    c.pass_entry-passed.result ≡ one s.file.now s.n s.m s.flips s.from l.j l.here
-tested c =
-    let s = c.args in
-    let l = c.loop-j in
-    c.pass_entry-passed.ensures ∙ flips_there s.file.now s.n s.m s.flips s.from l.here l.j (omega arith) l.invariant.1 l.invariant.2
-
 -- Where it passed, it stands there.
-stands : (c : goal.In-At-2) →
+stands : (c : goal.After-struct_known-1) →
     let l = c.loop-j in
     Held c.args.file.now l.here.at (record_of records.flips) (l.here.at + 4) c.in-At.moved
 stands c =
@@ -41,23 +31,35 @@ loop-j-init c = (search rules, search rules, refl, walk_none _ _)
 
 pub returns-in_default : goal.returns-in_default
 returns-in_default c =
+    let tested : (let s = c.args in
     let l = c.loop-j in
-    c.in_default.is ∙ walk_stops _ _ _ l.j (omega arith) l.invariant.3 (sym c.in_default.is ∙ tested c.before.before)
+    c.pass_entry-passed.result ≡ one s.file.now s.n s.m s.flips s.from l.j l.here) =
+        let s = c.args in
+    let l = c.loop-j in
+    c.pass_entry-passed.ensures ∙ flips_there s.file.now s.n s.m s.flips s.from l.here l.j (omega arith) l.invariant.1 l.invariant.2 in
+    let l = c.loop-j in
+    c.in_default.is ∙ walk_stops _ _ _ l.j (omega arith) l.invariant.3 (sym c.in_default.is ∙ tested)
 
 pub overflow_add-here : goal.overflow_add-here
-overflow_add-here c = omega (arith, stands c.before.before)
+overflow_add-here c = omega (arith, stands c)
 
 pub u16_at-requires : goal.u16_at-requires
-u16_at-requires c = omega (arith, stands c.before.before)
+u16_at-requires c = omega (arith, stands c)
 
 pub loop-j-preserved : goal.loop-j-preserved
 loop-j-preserved c =
+    let tested : (let s = c.args in
+    let l = c.loop-j in
+    c.pass_entry-passed.result ≡ one s.file.now s.n s.m s.flips s.from l.j l.here) =
+        let s = c.args in
+    let l = c.loop-j in
+    c.pass_entry-passed.ensures ∙ flips_there s.file.now s.n s.m s.flips s.from l.here l.j (omega arith) l.invariant.1 l.invariant.2 in
     let l = c.loop-j in
     let s = c.args in (
       omega arith,
-      omega (arith, stands c.before.before.before),
+      omega (arith, stands c.before),
       ap (λ (k : ℕ). k + 1) (c.u16_at.ensures ∙ column_there s.file.now s.flips s.from l.here l.j (omega arith) l.invariant.1) ∙ floor_next _ l.j,
-      sym c.in-At.is ∙ tested c.before.before.before.before.before ∙ walk_more _ _ l.j l.invariant.3,
+      sym c.in-At.is ∙ tested ∙ walk_more _ _ l.j l.invariant.3,
     )
 
 pub returns : goal.returns

@@ -10,31 +10,35 @@ use Rattle.answer.specs.Tests.{head_test}
 use native.Mathlib.Omega.{arith}
 use Rattle.answer.proofs.reader.pass_head.Goals as goal
 
--- What the step found is the head's step.
-found : (c : goal.After-read-step) → c.read-step.result ≡ step c.args.file.now 0 (record_of records.answer_head)
-found c = rw (← c.start.ensures, ← c.of.ensures) c.read-step.ensures
-
 -- So the head stands in the file.
-long : (c : goal.In-Payload-2) → 16 ≤ length c.args.file.now
-long c = omega (arith, held (sym c.in-Payload.is ∙ found c.before.before))
+long : (c : goal.In-Payload) → 16 ≤ length c.args.file.now
+long c =
+    let found : c.read-step.result ≡ step c.args.file.now 0 (record_of records.answer_head) =
+        rw (← c.start.ensures, ← c.of.ensures) c.read-step.ensures in
+    omega (arith, held (sym c.in-Payload.is ∙ found))
 
 pub returns-in_default : goal.returns-in_default
 unfolding head_test
-returns-in_default c = rw (c.refusal.ensures, ← found c.before.before.before, c.in_default.is)
+returns-in_default c =
+    let found : c.read-step.result ≡ step c.args.file.now 0 (record_of records.answer_head) =
+        rw (← c.start.ensures, ← c.of.ensures) c.read-step.ensures in
+    rw (c.refusal.ensures, ← found, c.in_default.is)
 
 pub u16_at-flips-requires : goal.u16_at-flips-requires
-u16_at-flips-requires c = omega (arith, long c.before)
+u16_at-flips-requires c = omega (arith, long c)
 
 pub u16_at-requires : goal.u16_at-requires
-u16_at-requires c = omega (arith, long c.before.before)
+u16_at-requires c = omega (arith, long c.before)
 
 pub u16_at-requires-2 : goal.u16_at-requires-2
-u16_at-requires-2 c = omega (arith, long c.before.before.before)
+u16_at-requires-2 c = omega (arith, long c.before.before)
 
 pub u16_at-requires-3 : goal.u16_at-requires-3
-u16_at-requires-3 c = omega (arith, long c.before.before.before.before)
+u16_at-requires-3 c = omega (arith, long c.before.before.before)
 
 pub returns : goal.returns
 unfolding head_test
 returns c =
+    let found : c.read-step.result ≡ step c.args.file.now 0 (record_of records.answer_head) =
+        rw (← c.start.ensures, ← c.of.ensures) c.read-step.ensures in
     rw (c.judge.ensures, c.head_fault-fault.ensures, c.u16_at-3.ensures, c.u16_at-2.ensures, c.u16_at.ensures, c.u16_at-flips.ensures, ← found c.before.before.before.before.before.before.before.before.before, c.in-Payload.is)

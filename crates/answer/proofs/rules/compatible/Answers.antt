@@ -13,4 +13,4 @@ returns-then-subset-2 c = rw (← c.subset.ensures, ← c.subset-2.ensures, c.if
 
 pub returns : goal.returns
 unfolding compatible
-returns c =rw (← c.common.ensures, ← c.subset.ensures, ← c.subset-2.ensures, c.if-subset.false, c.if-subset-2.false)
+returns c = rw (← c.common.ensures, ← c.subset.ensures, ← c.subset-2.ensures, c.if-subset.false, c.if-subset-2.false)

@@ -25,7 +25,7 @@ pub returns-then-not-subset-2 : goal.returns-then-not-subset-2
 returns-then-not-subset-2 c = unknown_zero _ _ _ _ (omega arith) (ones_known c.before.before) (sym c.subset-2.ensures ∙ not-true _ c.if-not-subset-2.true)
 
 pub returns-then-common-ne0 : goal.returns-then-common-ne0
-returns-then-common-ne0 c =in_both _ _ _ _ (omega arith) (ones_known c.before.before.before.before) (zeros_known c.before.before) (λ e. c.if-common-ne0.true (c.common.ensures ∙ e))
+returns-then-common-ne0 c = in_both _ _ _ _ (omega arith) (ones_known c.before.before.before.before) (zeros_known c.before.before) (λ e. c.if-common-ne0.true (c.common.ensures ∙ e))
 
 pub returns : goal.returns
-returns c =column_taken _ _ _ _ (omega arith) (ones_known c.before.before.before.before) (zeros_known c.before.before) (sym c.common.ensures ∙ c.if-common-ne0.false)
+returns c = column_taken _ _ _ _ (omega arith) (ones_known c.before.before.before.before) (zeros_known c.before.before) (sym c.common.ensures ∙ c.if-common-ne0.false)

@@ -4,4 +4,4 @@ use Rattle.record.proofs.Files.{opening_only}
 use Rattle.matrix.proofs.writer.put_end.Goals as goal
 
 pub returns : goal.returns
-returns c =rw (opening_only, ← c.of.ensures) c.put_opening.ensures
+returns c = rw (opening_only, ← c.of.ensures) c.put_opening.ensures

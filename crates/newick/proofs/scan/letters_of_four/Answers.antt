@@ -14,12 +14,12 @@ use Rattle.newick.proofs.scan.letters_of_four.Goals as goal
 abbrev Letters : goal.Start → ℕ → Type 0
 Letters c k = Sofar is_letter c.args.text.now c.args.at (c.args.at + k)
 
-none : (c : goal.Start) → Letters c 0
+none : (c : goal.After-shared_slice_known-1) → Letters c 0
 none c = none_of (search rules)
 
 one : (c : goal.Else-not-is_letter_at) → Letters c.before.before.before 1
 one c =
-    next_of 0 1 refl (none c.before.before.before) (search rules)
+    next_of 0 1 refl (none c.before.before) (search rules)
     (rw (add-zero _) (sym c.is_letter_at.ensures ∙ not-false _ c.if-not-is_letter_at.false))
 
 two : (c : goal.Else-not-is_letter_at-2) → Letters c.before.before.before.before.before 2
@@ -33,7 +33,7 @@ four c = next_of 3 4 refl (three c.before.before) (search rules) (sym c.is_lette
 
 pub returns-then-not-is_letter_at : goal.returns-then-not-is_letter_at
 returns-then-not-is_letter_at c =
-    some_of 4 (none c.before.before.before) (search rules) (rw (add-zero _) (sym c.is_letter_at.ensures ∙ not-true _ c.if-not-is_letter_at.true))
+    some_of 4 (none c.before.before) (search rules) (rw (add-zero _) (sym c.is_letter_at.ensures ∙ not-true _ c.if-not-is_letter_at.true))
 
 pub returns-then-not-is_letter_at-2 : goal.returns-then-not-is_letter_at-2
 returns-then-not-is_letter_at-2 c = some_of 4 (one c.before.before) (search rules) (sym c.is_letter_at-2.ensures ∙ not-true _ c.if-not-is_letter_at-2.true)

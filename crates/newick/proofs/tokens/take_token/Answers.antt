@@ -16,12 +16,12 @@ lists c =
     book a.starts.now a.sizes.now a.ones.now a.zeros.now a.index.now a.before.now a.filled.now
 
 -- A token of one byte, a sign.
-sign_here : (c : goal.Start) {sign : ℕ} → get_or c.args.text.now c.args.from.at 0 ≡ sign
+sign_here : (c : goal.Else-from) {sign : ℕ} → get_or c.args.text.now c.args.from.at 0 ≡ sign
     → SignAt c.args.text.now c.args.from.at sign (c.args.from.at + 1)
 sign_here c e = record { inside = c.requires.1; is = e; after = refl }
 
 -- The test of a letter was met.
-letter : (c : goal.Then-is_letter_at) →
+letter : (c : goal.After-take_name-arg-then-is_letter_at-2-1) →
     is_letter (get_or c.args.text.now c.args.from.at 0) ≡ true
 letter c = sym c.is_letter_at.ensures ∙ c.if-is_letter_at.true
 
@@ -43,7 +43,7 @@ returns-then-from c =
 pub take_name-named-requires : goal.take_name-named-requires
 take_name-named-requires c =
     let pre = c.requires in
-    (pre.0.placed, pre.1, letter c.before.before.before, pre.3, pre.4)
+    (pre.0.placed, pre.1, letter c, pre.3, pre.4)
 
 pub with_sign-requires : goal.with_sign-requires
 with_sign-requires c = λ on.
@@ -56,7 +56,7 @@ returns-then-is_letter_at c =
 
 pub returns-then-b-eq-LEFT : goal.returns-then-b-eq-LEFT
 returns-then-b-eq-LEFT c =
-    (c.take_left.ensures c.args.text.now (lists c.before.before.before.before.before.before.before.before.before.before.before) c.requires.0 (search rules) (sign_here c.before.before.before.before.before.before.before.before.before.before.before (search rules)), c.requires.4)
+    (c.take_left.ensures c.args.text.now (lists c.before.before.before.before.before.before.before.before.before.before.before) c.requires.0 (search rules) (sign_here c.before.before.before.before.before.before.before.before (search rules)), c.requires.4)
 
 pub returns : goal.returns
 returns c =

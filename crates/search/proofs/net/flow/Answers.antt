@@ -25,7 +25,7 @@ is_flow c row e k h =
 pub returns : goal.returns
 unfolding outs inns
 returns c = λ row e k h.
-(
+    (
       rw (to_z-of_z (sfits_of c.f-1.given)) at c.out_of.ensures ∙ ap out_of (is_flow c.before.before row e k h),
       rw (to_z-of_z (sfits_of c.f-1.given)) at c.inn_of.ensures ∙ ap inn_of (is_flow c.before.before row e k h),
     )

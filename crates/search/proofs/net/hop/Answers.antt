@@ -12,20 +12,20 @@ use Rattle.search.proofs.net.hop.Goals as goal
 from : (c : goal.After-slot-a) → let a = c.args in c.slot-a.result ≡ slot (nth a.joined.now) a.c a.i
 from c = c.slot-a.ensures ∙ column_place c.args.i c.column_at-column.ensures.0
 
-to : (c : goal.After-slot-b) → let a = c.args in c.slot-b.result ≡ slot (nth a.joined.now) a.c a.j
+to : (c : goal.After-send-arg-1) → let a = c.args in c.slot-b.result ≡ slot (nth a.joined.now) a.c a.j
 to c = c.slot-b.ensures ∙ column_place c.args.j c.column_at-column.ensures.0
 
 pub send-requires : goal.send-requires
 send-requires c =
     let a = c.args in
-    rw (from c.before.before, to c.before) (can_send a.ws.now a.joined.now a.offsets.now a.c a.i a.j a.d c.requires)
+    rw (from c.before.before, to c) (can_send a.ws.now a.joined.now a.offsets.now a.c a.i a.j a.d c.requires)
 
 pub returns : goal.returns
 returns c =
     let p = c.requires in
     let a = c.args in
     let row = nth a.joined.now in
-    let e = rw (from c.before.before.before.before, to c.before.before.before) at c.send.ensures in
+    let e = rw (from c.before.before.before.before, to c.before.before) at c.send.ensures in
     rw e (
       hopped a.ws.now a.joined.now a.offsets.now a.c a.i a.j a.d p,
       λ m b.

@@ -13,79 +13,75 @@ use Rattle.search.proofs.Workspace.{kept_none}
 use Rattle.search.proofs.Flows.{Under, under_start, under_low, not_root, is_root, under_via, under_turn, can_hop, under_step, stayed, went, size_small}
 use Rattle.search.proofs.push.advance.Goals as goal
 
--- The way back from the test of t to the start.
-abbrev begun : goal.Else-not-contains → goal.Start
-begun c = c.before.before.before.before.before.before.before.before.before.before
-
 -- t is one of 64 taxa.
-t_low : (c : goal.Start) → c.args.t < 64
+t_low : (c : goal.After-shared_slice_known-1) → c.args.t < 64
 t_low c = omega (arith, c.requires.0.sink, c.requires.0.ready.net.taxa)
 
-reached : (c : goal.Else-not-contains) → has c.reach-met.result (begun c).args.t ≡ true
+reached : (c : goal.Else-not-contains) → has c.reach-met.result c.args.t ≡ true
 reached c = sym c.contains.ensures ∙ not-false c.contains.result c.if-not-contains.false
 
 -- The loop ends at a source.
-ends : (c : goal.After-loop-j) → has (begun c.before.before.before.before).args.sources c.loop-j.j ≡ true
+ends : (c : goal.After-loop-j) → has c.args.sources c.loop-j.j ≡ true
 ends c = is_root c.loop-j.invariant (omega arith)
 
 -- All of the path has been pushed.
 pushed : (c : goal.After-loop-j) →
-    let a = (begun c.before.before.before.before).args in
+    let a = c.args in
     let r = c.reach-met in
     Advanced a.weights.now a.planes.now a.joined.now a.limits.now a.offsets.now a.n a.m c.loop-j.ws c.loop-j.used a.sources a.t a.size
     (a.size + width_of r.new.1.1.1.1.1.1.1.1.1.0 a.t) r.result
 pushed c =
-    went c.loop-j.invariant (ends c) (reached c.before.before.before.before.before.before) (c.reach-met.ensures.0.tree.link (begun c.before.before.before.before).args.t (reached c.before.before.before.before.before.before) (begun c.before.before.before.before).requires.0.apart).some
+    went c.loop-j.invariant (ends c) (reached c.before.before.before.before.before.before) (c.reach-met.ensures.0.tree.link c.args.t (reached c.before.before.before.before.before.before) c.requires.0.apart).some
 
 pub overflow_cast-t : goal.overflow_cast-t
-overflow_cast-t c = omega (arith, t_low c.before)
+overflow_cast-t c = omega (arith, t_low c)
 
 pub single-goal-requires : goal.single-goal-requires
-single-goal-requires c = omega (arith, t_low c.before)
+single-goal-requires c = omega (arith, t_low c)
 
 pub overflow_mul-t : goal.overflow_mul-t
-overflow_mul-t c = omega (arith, t_low c.before.before)
+overflow_mul-t c = omega (arith, t_low c.before)
 
 pub overflow_add-t : goal.overflow_add-t
-overflow_add-t c = omega (arith, t_low c.before.before)
+overflow_add-t c = omega (arith, t_low c.before)
 
 pub offset_bounds-tree-t : goal.offset_bounds-tree-t
-offset_bounds-tree-t c = omega (arith, t_low c.before.before)
+offset_bounds-tree-t c = omega (arith, t_low c.before)
 
 pub bounds-tree-t : goal.bounds-tree-t
-bounds-tree-t c = omega (arith, t_low c.before.before.before)
+bounds-tree-t c = omega (arith, t_low c.before.before)
 
 pub reach-met-requires : goal.reach-met-requires
 reach-met-requires c = let p = c.requires in (p.0.ready, p.1, p.0.sources)
 
 pub overflow_cast-t-2 : goal.overflow_cast-t-2
-overflow_cast-t-2 c = omega (arith, t_low c.before.before.before.before.before.before.before)
+overflow_cast-t-2 c = omega (arith, t_low c.before.before.before.before.before.before)
 
 pub contains-requires : goal.contains-requires
-contains-requires c = omega (arith, t_low c.before.before.before.before.before.before.before)
+contains-requires c = omega (arith, t_low c.before.before.before.before.before.before)
 
 pub returns-then-not-contains : goal.returns-then-not-contains
 returns-then-not-contains c =
-(
+    (
       stayed c.requires.0 c.reach-met.ensures.0 c.single-goal.ensures (sym c.contains.ensures ∙ not-true c.contains.result c.if-not-contains.true),
       kept_none (sizes c.args.m (nth c.args.joined.now)) c.args.ws.now,
       c.reach-met.ensures.1,
     )
 
 pub overflow_mul-d : goal.overflow_mul-d
-overflow_mul-d c = omega (arith, t_low (begun c))
+overflow_mul-d c = omega (arith, t_low c.before.before.before.before.before.before.before.before)
 
 pub overflow_add-d : goal.overflow_add-d
-overflow_add-d c = omega (arith, t_low (begun c))
+overflow_add-d c = omega (arith, t_low c.before.before.before.before.before.before.before.before)
 
 pub offset_bounds-tree-t-2 : goal.offset_bounds-tree-t-2
-offset_bounds-tree-t-2 c = omega (arith, t_low (begun c))
+offset_bounds-tree-t-2 c = omega (arith, t_low c.before.before.before.before.before.before.before.before)
 
 pub bounds-tree-t-2 : goal.bounds-tree-t-2
-bounds-tree-t-2 c = omega (arith, t_low (begun c))
+bounds-tree-t-2 c = omega (arith, t_low c.before.before.before.before.before.before.before.before.before)
 
 pub loop-j-init : goal.loop-j-init
-loop-j-init c =under_start (begun c.before).requires.0 c.reach-met.ensures.0 (reached c.before.before) (omega arith)
+loop-j-init c = under_start c.requires.0 c.reach-met.ensures.0 (reached c.before.before) (omega arith)
 
 pub overflow_mul-j : goal.overflow_mul-j
 overflow_mul-j c = omega (arith, under_low c.loop-j.invariant)
@@ -135,7 +131,7 @@ loop-j-preserved c =
     let u = c.loop-j.invariant in
     let index = c.index-i.ensures in
     let h = rw (index, c.index-c.ensures) c.before.before.before.before.before.before.before.before c.step.ensures in
-    let a = (begun c.before.before.before.before.before.before.before.before.before.before.before.before).args in
+    let a = c.args in
     let root = not_root u c.loop-j-test.true in
     rw index (under_step u root (h.0 a.m) (h.1 a.m (under_via u root)) h.2)
 

@@ -14,28 +14,20 @@ use Rattle.search.proofs.Workspace.{kept_none, kept_then, cleared_kept}
 use Rattle.search.proofs.Flows.{no_flow, size_small, rest_of, falls}
 use Rattle.search.proofs.push.largest.Goals as goal
 
--- The way back from the direct hops, and from the loop, to the start.
-abbrev begun_at : goal.After-single → goal.Start
-begun_at c = c.before.before.before.before.before.before.before.before.before.before.before
-
-abbrev begun : goal.At-loop-ws → goal.Start
-begun c = begun_at c.before
-
 -- t counts as reached.
-reached : (c : goal.After-single) → has c.single.result (begun_at c).args.t ≡ true
-reached c = let t = (begun_at c).args.t in ap (λ (x : ℕ). has x t) c.single.ensures ∙ (in_pow t).is
+reached : (c : goal.After-single) → has c.single.result c.args.t ≡ true
+reached c = let t = c.args.t in ap (λ (x : ℕ). has x t) c.single.ensures ∙ (in_pow t).is
 
-kept : (c : goal.At-loop-ws) → let a = (begun c).args in Kept (sizes a.m (nth a.joined.now)) a.ws.now c.loop-ws.ws
+kept : (c : goal.At-loop-ws) → let a = c.args in Kept (sizes a.m (nth a.joined.now)) a.ws.now c.loop-ws.ws
 kept c =
-    let start = begun c in
-    let clear = rw (start.pre.0.offsets.is start.args.m (omega arith)) at c.clear_places.ensures in
-    kept_then (cleared_kept start.args.ws.now clear start.pre.1) (kept_then c.direct_hops-size.ensures.1 c.loop-ws.invariant.1)
+    let clear = rw (c.requires.0.offsets.is c.args.m (omega arith)) at c.clear_places.ensures in
+    kept_then (cleared_kept c.args.ws.now clear c.requires.1) (kept_then c.direct_hops-size.ensures.1 c.loop-ws.invariant.1)
 
 pub unused-requires : goal.unused-requires
 unused-requires c = let p = c.requires in (p.0.columns, p.5.counts)
 
 pub clear_places-requires : goal.clear_places-requires
-clear_places-requires c =let p = c.requires in (p.0.columns, omega (arith, p.1, p.0.offsets.is c.args.m (omega arith)))
+clear_places-requires c = let p = c.requires in (p.0.columns, omega (arith, p.1, p.0.offsets.is c.args.m (omega arith)))
 
 pub direct_hops-size-requires : goal.direct_hops-size-requires
 direct_hops-size-requires c =
@@ -44,12 +36,12 @@ direct_hops-size-requires c =
 
 pub loop-ws-init : goal.loop-ws-init
 loop-ws-init c =
-    let a = (begun_at c).args in
+    let a = c.args in
     let f = c.direct_hops-size in
-    (record { flowing = f.ensures.0; side = λ q. absurd (true≢false (sym (reached c) ∙ q)) }, kept_none (sizes a.m (nth a.joined.now)) f.new.1.1.1.1.1.1.1.0, (begun_at c).requires.5.tree)
+    (record { flowing = f.ensures.0; side = λ q. absurd (true≢false (sym (reached c) ∙ q)) }, kept_none (sizes a.m (nth a.joined.now)) f.new.1.1.1.1.1.1.1.0, c.requires.5.tree)
 
 pub grows-requires : goal.grows-requires
-grows-requires c = let p = (begun c).requires in omega (arith, p.3, p.0.taxa)
+grows-requires c = let p = c.requires in omega (arith, p.3, p.0.taxa)
 
 pub advance-cut-requires : goal.advance-cut-requires
 advance-cut-requires c = let v = c.loop-ws.invariant in (v.0.flowing, v.2)
@@ -57,7 +49,7 @@ advance-cut-requires c = let v = c.loop-ws.invariant in (v.0.flowing, v.2)
 pub loop-ws-smaller : goal.loop-ws-smaller
 loop-ws-smaller c =
     let v = c.loop-ws.cut in
-    let t = (begun c.before.before.before.before.before.before.before).args.t in
+    let t = c.args.t in
     let r = c.advance-cut.result in
     let h = c.advance-cut.ensures.0 in
     falls v.size r.size (has v.side t) (has r.side t) (c.grows.ensures.0 c.loop-ws-test.true) h.more h.pushed (size_small h.stage.flowing)

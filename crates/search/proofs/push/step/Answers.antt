@@ -13,84 +13,62 @@ use Rattle.search.proofs.Reaching.{pair_asks, pair_long}
 use Rattle.search.proofs.Flows.{count_after, entries_few, counted}
 use Rattle.search.proofs.push.step.Goals as goal
 
--- The way back: from the last reading to the hop, from the hop to the first readings, and to the start.
-abbrev hopped : goal.After-flow-4 → goal.After-hop
-hopped c = c.before.before.before.before.before
-
-abbrev looked : goal.After-hop → goal.After-flow-2
-looked c = c.before.before.before.before
-
-abbrev known : goal.After-flow-2 → goal.After-column_at-column
-known c = c.before.before.before.before
-
-abbrev begun : goal.After-flow-2 → goal.Start
-begun c = (known c).before
-
 -- The length of the workspace is the same after the hop.
-long : (c : goal.After-hop) → length c.hop.new.0 ≡ length (begun (looked c)).args.ws.now
-long c = (c.hop.ensures.1 ((begun (looked c)).args.c + 1) (omega arith)).long
+long : (c : goal.After-ws-1) → length c.hop.new.0 ≡ length c.args.ws.now
+long c = (c.hop.ensures.1 (c.args.c + 1) (omega arith)).long
 
-column : (c : goal.After-flow-4) → (begun (looked (hopped c))).args.c < 256
-column c = (begun (looked (hopped c))).requires.4.column
+column : (c : goal.After-struct_known-4-1) → c.args.c < 256
+column c = c.requires.4.column
 
 -- What is read: what goes out, at both taxa, before and after.
 abbrev out_of : goal.After-flow-2 → List ℤ → ℕ → ℕ
-out_of c ws i = let a = (begun c).args in outs ws (nth a.joined.now) a.c i
+out_of c ws i = let a = c.@1.args in outs ws (nth a.joined.now) a.c i
 
-from_before : (c : goal.After-flow-2) → let a = (begun c).args in c.flow.result.out ≡ out_of c a.ws.now a.i
-from_before c = let a = (begun c).args in (c.flow.ensures (nth a.joined.now) a.c (known c).column_at_lem.ensures.0 (begun c).requires.0.from.joins).0
+from_before : (c : goal.After-struct_known-2-1) → let a = c.args in c.flow.result.out ≡ out_of c a.ws.now a.i
+from_before c = let a = c.args in (c.flow.ensures (nth a.joined.now) a.c c.column_at-column.ensures.0 c.requires.0.from.joins).0
 
-to_before : (c : goal.After-flow-2) → let a = (begun c).args in c.flow-2.result.out ≡ out_of c a.ws.now a.j
-to_before c = let a = (begun c).args in (c.flow-2.ensures (nth a.joined.now) a.c (known c).column_at_lem.ensures.0 (begun c).requires.0.to.joins).0
+to_before : (c : goal.After-struct_known-2-1) → let a = c.args in c.flow-2.result.out ≡ out_of c a.ws.now a.j
+to_before c = let a = c.args in (c.flow-2.ensures (nth a.joined.now) a.c c.column_at-column.ensures.0 c.requires.0.to.joins).0
 
-from_after : (c : goal.After-flow-4) → let l = looked (hopped c) in c.flow-3.result.out ≡ out_of l (hopped c).hop.new.0 (begun l).args.i
-from_after c = let l = looked (hopped c) in let a = (begun l).args in (c.flow-3.ensures (nth a.joined.now) a.c (known l).column_at_lem.ensures.0 (begun l).pre.0.from.joins).0
+from_after : (c : goal.After-struct_known-4-1) → c.flow-3.result.out ≡ out_of c.before.before.before.before.before.before.before.before.before c.hop.new.0 c.args.i
+from_after c = let a = c.args in (c.flow-3.ensures (nth a.joined.now) a.c c.column_at-column.ensures.0 c.requires.0.from.joins).0
 
-to_after : (c : goal.After-flow-4) → let l = looked (hopped c) in c.flow-4.result.out ≡ out_of l (hopped c).hop.new.0 (begun l).args.j
-to_after c = let l = looked (hopped c) in let a = (begun l).args in (c.flow-4.ensures (nth a.joined.now) a.c (known l).column_at_lem.ensures.0 (begun l).pre.0.to.joins).0
+to_after : (c : goal.After-struct_known-4-1) → c.flow-4.result.out ≡ out_of c.before.before.before.before.before.before.before.before.before c.hop.new.0 c.args.j
+to_after c = let a = c.args in (c.flow-4.ensures (nth a.joined.now) a.c c.column_at-column.ensures.0 c.requires.0.to.joins).0
 
-few : (c : goal.After-flow-4) → c.flow-3.result.out + c.flow-4.result.out < 3 * 2 ^ 30
+few : (c : goal.After-struct_known-4-1) → c.flow-3.result.out + c.flow-4.result.out < 3 * 2 ^ 30
 few c =
-    let h = hopped c in
-    let p = (begun (looked h)).requires in
-    let here = (h.hop.ensures.0 (begun (looked h)).args.n 0 p.1).here in
+    let p = c.requires in
+    let here = (c.hop.ensures.0 c.args.n 0 p.1).here in
     omega (arith, entries_few p.2 p.4, entries_few p.3 p.4, p.4.little, here.from_out, here.to_out, from_after c, to_after c)
 
 -- The count before and the two entries after are the count after and the two entries before.
-balance : (c : goal.After-flow-4) →
-    let h = hopped c in
-    let a = (begun (looked h)).args in
-    sum a.n (outs h.hop.last.0 (nth a.joined.now) a.c) + ((looked h).before.before.flow.result.out + (looked h).flow2.result.out)
+balance : (c : goal.After-struct_known-4-1) →
+    let a = c.args in
+    sum a.n (outs c.hop.last.0 (nth a.joined.now) a.c) + (c.flow.result.out + c.flow-2.result.out)
     ≡ nth a.used.now a.c + (c.flow-3.result.out + c.flow-4.result.out)
 balance c =
-    let h = hopped c in
-    let l = looked h in
-    let p = (begun l).pre in
+    let p = c.requires in
     omega (
       arith,
-      count_after (begun l).args.n (h.hop.ensures.0 (begun l).args.n 0 p.1).here p.2 p.3 p.0.apart,
+      count_after c.args.n (c.hop.ensures.0 c.args.n 0 p.1).here p.2 p.3 p.0.apart,
       p.4.is,
-      from_before l,
-      to_before l,
+      from_before c.before.before.before.before.before.before.before,
+      to_before c.before.before.before.before.before.before.before,
       from_after c,
       to_after c,
     )
 
-abbrev read : goal.After-used-1 → goal.After-flow-4
-read c = c.before.before.before
-
 pub overflow_add-before : goal.overflow_add-before
 overflow_add-before c =
-    let p = (begun c.before.before).requires in
-    omega (arith, entries_few p.2 p.4, entries_few p.3 p.4, from_before c.before.before, to_before c.before.before)
+    let p = c.requires in
+    omega (arith, entries_few p.2 p.4, entries_few p.3 p.4, from_before c, to_before c)
 
 pub returns : goal.returns
 returns c =
-    let r = read c in
-    let h = hopped r in
-    let a = (begun (looked h)).args in
-    let p = (begun (looked h)).requires in
-    (λ m. h.hop.ensures.0 a.n m p.1, h.hop.ensures.1, counted a.joined.now a.n a.used.now a.c p.4.counts p.4.column (omega (arith, balance r)))
+    let a = c.args in
+    let p = c.requires in
+    (λ m. c.hop.ensures.0 a.n m p.1, c.hop.ensures.1, counted a.joined.now a.n a.used.now a.c p.4.counts p.4.column (omega (arith, balance c.before.before)))
 
 pub column_at-column-requires : goal.column_at-column-requires
 column_at-column-requires c = let p = c.requires.0.from in (p.column, p.offset)
@@ -102,31 +80,31 @@ pub flow-requires-2 : goal.flow-requires-2
 flow-requires-2 c = pair_asks c.requires.0.to c.column_at-column.ensures
 
 pub flow-requires-3 : goal.flow-requires-3
-flow-requires-3 c = pair_asks {ws = c.hop.new.0} (pair_long (begun (looked c.before.before)).requires.0.from (long c.before)) (known (looked c.before.before)).column_at_lem.ensures
+flow-requires-3 c = pair_asks {ws = c.hop.new.0} (pair_long c.requires.0.from (long c)) c.column_at-column.ensures
 
 pub flow-requires-4 : goal.flow-requires-4
-flow-requires-4 c = pair_asks {ws = c.hop.new.0} (pair_long (begun (looked c.before.before.before.before)).requires.0.to (long c.before.before)) (known (looked c.before.before.before.before)).column_at_lem.ensures
+flow-requires-4 c = pair_asks {ws = c.hop.new.0} (pair_long c.requires.0.to (long c.before)) c.column_at-column.ensures
 
 pub overflow_add-after : goal.overflow_add-after
-overflow_add-after c = omega (arith, few c.before.before)
+overflow_add-after c = omega (arith, few c)
 
 pub offset_bounds-used-c : goal.offset_bounds-used-c
-offset_bounds-used-c c = omega (arith, column c.before.before)
+offset_bounds-used-c c = omega (arith, column c)
 
 pub bounds-used-c : goal.bounds-used-c
-bounds-used-c c = omega (arith, column c.before.before.before)
+bounds-used-c c = omega (arith, column c.before)
 
 pub overflow_add-used : goal.overflow_add-used
-overflow_add-used c = omega (arith, few (read c), (begun (looked (hopped (read c)))).requires.4.few)
+overflow_add-used c = omega (arith, few c.before.before, c.requires.4.few)
 
 pub overflow_sub-used : goal.overflow_sub-used
-overflow_sub-used c = omega (arith, balance (read c))
+overflow_sub-used c = omega (arith, balance c.before.before)
 
 pub offset_bounds-used-c-2 : goal.offset_bounds-used-c-2
-offset_bounds-used-c-2 c = omega (arith, column (read c))
+offset_bounds-used-c-2 c = omega (arith, column c.before.before)
 
 pub bounds-used-c-2 : goal.bounds-used-c-2
-bounds-used-c-2 c = omega (arith, column (read c))
+bounds-used-c-2 c = omega (arith, column c.before.before)
 
 pub shape_of-ws : goal.shape_of-ws
-shape_of-ws c = long (hopped (read c))
+shape_of-ws c = long c.before.before.before.before.before.before

@@ -7,18 +7,14 @@ use Rattle.taxa.specs.Sets.{multiplicity_in}
 use Rattle.search.specs.inner.Network.{arc}
 use Rattle.search.proofs.reach.gate_at.Goals as goal
 
--- The way back from the arc to the start, and what it carries.
-abbrev begun : goal.After-arc-most → goal.Start
-begun c = c.before.before.before.before
-
-is_arc : (c : goal.After-arc-most) → let a = (begun c).args in c.arc-most.result ≡ arc a.weights.now a.planes.now a.c a.i
+is_arc : (c : goal.After-arc-most) → let a = c.args in c.arc-most.result ≡ arc a.weights.now a.planes.now a.c a.i
 is_arc c =
-    let a = (begun c).args in
+    let a = c.args in
     c.arc-most.ensures.0 ∙ ap (λ (w : ℕ). w * multiplicity_in a.planes.now a.i) c.wide-weight.ensures.0
 
 pub spare-sends-requires : goal.spare-sends-requires
 spare-sends-requires c =
-    let p = (begun c).requires in
+    let p = c.requires in
     let e = is_arc c in
     (omega (arith, e, p.3), c.arc-most.ensures.1, omega (arith, e, p.4))
 

@@ -8,15 +8,6 @@ use Rattle.search.specs.inner.Reaching.{Leads}
 use Rattle.search.proofs.Reaching.{cross_full, cross_none, cross}
 use Rattle.search.proofs.reach.pass.Goals as goal
 
--- The way back from the sender to the start.
-abbrev begun : goal.After-common-here → goal.Start
-begun c = c.before.before.before.before.before.before
-
-leads : (c : goal.After-sender-i) →
-    let a = (begun c.before).args in
-    Leads a.weights.now a.planes.now a.joined.now a.limits.now a.n a.ws.now a.c (nth a.joined.now a.c ∩ a.met) c.sender-i.result
-leads c = rw c.common-here.ensures at c.sender-i.ensures
-
 pub returns-then-subset : goal.returns-then-subset
 returns-then-subset c =
     let p = c.requires in
@@ -24,24 +15,32 @@ returns-then-subset c =
 
 pub sender-i-requires : goal.sender-i-requires
 sender-i-requires c =
-    let a = (begun c).args in
-    let p = (begun c).requires in
+    let a = c.args in
+    let p = c.requires in
     (p.0, p.2, rw c.common-here.ensures (∩-⊆ (nth a.joined.now a.c) a.met))
 
 pub returns-then-i-eq-NOBODY : goal.returns-then-i-eq-NOBODY
 returns-then-i-eq-NOBODY c =
-    let p = (begun c.before.before).requires in
-    cross_none p.0 p.2 p.1 (rw c.if-i-eq-NOBODY.true at (leads c.before))
+    let leads : (let a = c.args in
+    Leads a.weights.now a.planes.now a.joined.now a.limits.now a.n a.ws.now a.c (nth a.joined.now a.c ∩ a.met) c.sender-i.result) =
+        rw c.common-here.ensures at c.sender-i.ensures in
+    let p = c.requires in
+    cross_none p.0 p.2 p.1 (rw c.if-i-eq-NOBODY.true at (leads))
 
 pub through-requires : goal.through-requires
 through-requires c =
-    let start = begun c.before.before.before in
-    let a = start.args in
-    let p = start.pre in
-    let h = (in∩ (nth a.joined.now a.c) a.met).0 (record { is = (leads c.before.before).held c.if-i-eq-NOBODY.false }) in
+    let leads : (let a = c.args in
+    Leads a.weights.now a.planes.now a.joined.now a.limits.now a.n a.ws.now a.c (nth a.joined.now a.c ∩ a.met) c.sender-i.result) =
+        rw c.common-here.ensures at c.sender-i.ensures in
+    let a = c.args in
+    let p = c.requires in
+    let h = (in∩ (nth a.joined.now a.c) a.met).0 (record { is = (leads).held c.if-i-eq-NOBODY.false }) in
     (p.0, p.1, p.2, h.0.is, h.1.is)
 
 pub returns : goal.returns
 returns c =
-    let p = (begun c.before.before.before.before).requires in
-    cross p.0 p.2 p.1 (leads c.before.before.before) c.through.ensures
+    let leads : (let a = c.args in
+    Leads a.weights.now a.planes.now a.joined.now a.limits.now a.n a.ws.now a.c (nth a.joined.now a.c ∩ a.met) c.sender-i.result) =
+        rw c.common-here.ensures at c.sender-i.ensures in
+    let p = c.requires in
+    cross p.0 p.2 p.1 (leads) c.through.ensures

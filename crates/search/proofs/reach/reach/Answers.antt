@@ -19,7 +19,7 @@ pub loop-met-init : goal.loop-met-init
 loop-met-init c = swept_none c.sweep-next.ensures.tree
 
 pub sweep-next-requires-in-loop-met : goal.sweep-next-requires-in-loop-met
-sweep-next-requires-in-loop-met c =(c.requires.0, c.loop-met.invariant.tree)
+sweep-next-requires-in-loop-met c = (c.requires.0, c.loop-met.invariant.tree)
 
 pub loop-met-smaller : goal.loop-met-smaller
 loop-met-smaller c = omega (arith, rooted_low c.loop-met.invariant.tree, c.loop-met-test.true)

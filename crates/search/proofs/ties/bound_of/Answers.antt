@@ -10,21 +10,17 @@ use Rattle.search.specs.inner.Network.{flow_most, weight_most}
 use Rattle.search.proofs.Bonds.{times_small, Binding, binding_start, binding_one}
 use Rattle.search.proofs.ties.bound_of.Goals as goal
 
--- The way back from a taxon to the start.
-abbrev begun : goal.After-lowest-i → goal.Start
-begun c = c.before.before.before.before
-
 -- What joins it, and that times what it stands for.
 weight_small : (c : goal.After-lowest-i) →
-    let a = (begun c).args in
+    let a = c.args in
     nth a.limits.now (256 + c.lowest-i.result) + nth a.own.now c.lowest-i.result ≤ weight_most
-weight_small c = (begun c).requires.4 c.lowest-i.result (c.loop-left.invariant.inside c.lowest-i.result c.lowest-i.ensures.2.is).0
+weight_small c = c.requires.4 c.lowest-i.result (c.loop-left.invariant.inside c.lowest-i.result c.lowest-i.ensures.2.is).0
 
 product : (c : goal.After-multiplicity) →
-    let a = (begun c.before.before.before).args in
+    let a = c.args in
     (nth a.limits.now (256 + c.lowest-i.result) + nth a.own.now c.lowest-i.result) * c.multiplicity.result ≤ flow_most
 product c =
-    rw c.multiplicity.ensures.0 (times_small (begun c.before.before.before).args.planes.now c.lowest-i.result (weight_small c.before.before.before.before.before))
+    rw c.multiplicity.ensures.0 (times_small c.args.planes.now c.lowest-i.result (weight_small c.before.before.before.before.before))
 
 pub loop-left-init : goal.loop-left-init
 loop-left-init c =
@@ -33,7 +29,7 @@ loop-left-init c =
 
 pub loop-left-preserved : goal.loop-left-preserved
 loop-left-preserved c =
-    let a = (begun c.before.before.before.before.before).args in
+    let a = c.args in
     let left = c.loop-left.left in
     rw c.least-bound.ensures
     (binding_one c.loop-left.invariant c.lowest-i.result c.lowest-i.ensures.2.is
@@ -62,7 +58,7 @@ pub overflow_add-weight-in-loop-left : goal.overflow_add-weight-in-loop-left
 overflow_add-weight-in-loop-left c = omega (arith, weight_small c.before.before.before.before)
 
 pub multiplicity-requires : goal.multiplicity-requires
-multiplicity-requires c = (c.lowest-i.ensures.1, (begun c.before.before).pre.0)
+multiplicity-requires c = (c.lowest-i.ensures.1, c.requires.0)
 
 pub overflow_mul-weight : goal.overflow_mul-weight
 overflow_mul-weight c = omega (arith, product c)

@@ -7,16 +7,9 @@ use Rattle.search.specs.inner.Trying.{Ties, Weighed, Few, SameLimits}
 use Rattle.search.proofs.Bonds.{few_next, few_more, few_none, same_then, ties_start, weighed_start, ties_next, weighed_next}
 use Rattle.search.proofs.ties.ties_of.Goals as goal
 
--- The way back from the start of the loop, and from a column to its turn.
-abbrev begun : goal.After-unused → goal.Start
-begun c = c.before.before.before.before.before
-
-abbrev turned : goal.After-shared_slice_known-in-loop-c-1 → goal.At-loop-c
-turned c = c.before.before.before.before.before.before
-
 pub loop-c-init : goal.loop-c-init
 loop-c-init c =
-    let a = (begun c).args in
+    let a = c.args in
     let (same, none) = c.untied.ensures in
     let own = c.unused.ensures in (
       omega arith,
@@ -28,23 +21,22 @@ loop-c-init c =
 
 pub tie_column-requires : goal.tie_column-requires
 tie_column-requires c =
-    let v = (turned c).loop.invariant in
-    (v.1.long, v.2.long, few_more v.4 (omega (arith, v.0, (begun (turned c).before).pre.0)))
+    let v = c.loop-c.invariant in
+    (v.1.long, v.2.long, few_more v.4 (omega (arith, v.0, c.requires.0)))
 
 pub loop-c-preserved : goal.loop-c-preserved
 loop-c-preserved c =
-    let at = turned c.before in
-    let v = at.loop.inv in
-    let e = rw c.common.ensures at c.tie_column.ensures in (
+    let v = c.loop-c.inv in
+    let e = rw c.common.ensures c.before.before.before.before.before.before.before.before c.tie_column.ensures in (
       omega arith,
       ties_next (omega arith) e v.1,
       weighed_next (omega arith) e v.2,
       same_then v.3 e.tied.limits,
-      few_next v.4 e (omega (arith, c.type_inv.weights at.loop.c)),
+      few_next v.4 e (omega (arith, c.type_inv.weights c.loop-c.c)),
     )
 
 pub returns : goal.returns
 returns c =
     let v = c.loop-c in
-    let e : v.c ≡ (begun c.before.before).args.m = omega arith in
+    let e : v.c ≡ c.args.m = omega arith in
     (rw e at v.invariant.1, rw e at v.invariant.2, same_then c.untied.ensures.0 v.invariant.3)

@@ -3,10 +3,7 @@ use borrow.Author.Rules.{rules}
 use Rattle.split.proofs.Dividing.{found_split, used_cleared}
 use Rattle.split.proofs.group.divide.Goals as goal
 
-abbrev begun : goal.After-divide-found → goal.Start
-begun c = c.before.before.before.before.before.before.before.before.before.before
-
 pub returns : goal.returns
 returns c =
     let (found, arcs, kept, lent) = c.divide-found.ensures in
-    (found_split (begun c.before.before.before.before.before).requires.0 found, used_cleared arcs kept c.clear_places.ensures, lent)
+    (found_split c.requires.0 found, used_cleared arcs kept c.clear_places.ensures, lent)

@@ -10,7 +10,7 @@ use Rattle.split.specs.inner.Parts.{swept}
 use Rattle.split.proofs.Growing.{Grown, grow_start, grow_on, grown_part}
 use Rattle.split.proofs.parts.part.Goals as goal
 
-fits : (c : goal.Start) → c.args.group < 2 ^ 64
+fits : (c : goal.After-shared_slice_known-2-1) → c.args.group < 2 ^ 64
 fits c = omega (arith, c.ranges.group)
 
 -- The taxa met after one more sweep are of the part, too.
@@ -19,10 +19,10 @@ grows : (c : goal.In-loop-met) →
     Grown args.ones.now args.zeros.now args.group args.i c.loop-met.next
 grows c =
     let v = c.loop-met in
-    rw v.invariant.1 (grow_on _ _ _ _ (fits c.before.before.before.before.before.before) v.invariant.0)
+    rw v.invariant.1 (grow_on _ _ _ _ (fits c.before.before.before.before) v.invariant.0)
 
 pub single-met-requires : goal.single-met-requires
-single-met-requires c =below 64 (fits c.before.before) c.requires.1
+single-met-requires c = below 64 (fits c) c.requires.1
 
 pub loop-met-init : goal.loop-met-init
 loop-met-init c = (rw c.single-met.ensures (grow_start _ _ _ _ c.requires.1), c.sweep-next.ensures)
@@ -36,4 +36,4 @@ loop-met-preserved c = (grows c.before, c.sweep-next-in-loop-met.ensures)
 pub returns : goal.returns
 returns c =
     let v = c.loop-met in
-    grown_part _ _ _ _ (fits c.before.before.before.before.before.before) v.invariant.0 (rw v.invariant.1 c.before.before.before.before.before.before c.loop-met-test.false)
+    grown_part _ _ _ _ (fits c.before.before.before.before) v.invariant.0 (rw v.invariant.1 c.before.before.before.before.before.before c.loop-met-test.false)

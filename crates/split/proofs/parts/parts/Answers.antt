@@ -12,11 +12,11 @@ use Rattle.search.specs.Search.{cols_of}
 use Rattle.split.proofs.Collecting.{Collecting, collect_none, has_room, fewer, collect_one, all_collected}
 use Rattle.split.proofs.parts.parts.Goals as goal
 
-fits : (c : goal.Start) → c.args.group < 2 ^ 64
+fits : (c : goal.After-slice_known-1) → c.args.group < 2 ^ 64
 fits c = omega (arith, c.ranges.group)
 
 room : (c : goal.In-loop-left) → c.loop-left.number < length c.loop-left.list
-room c =has_room _ _ _ _ (fits c.before.before.before.before.before) c.loop-left.invariant c.requires.1 c.loop-left-test.true
+room c = has_room _ _ _ _ (fits c.before.before) c.loop-left.invariant c.requires.1 c.loop-left-test.true
 
 -- What was found is the part of the lowest taxon left.
 found : (c : goal.After-part-it) →
@@ -42,14 +42,14 @@ overflow_add-number c = omega (arith, room c.before.before.before)
 
 pub loop-left-smaller : goal.loop-left-smaller
 loop-left-smaller c =
-    rw c.difference-left.ensures (fewer _ _ _ _ (fits c.before.before.before.before.before.before.before.before) c.loop-left.invariant c.requires.1 c.loop-left-test.true (found c.before))
+    rw c.difference-left.ensures (fewer _ _ _ _ (fits c.before.before.before.before.before) c.loop-left.invariant c.requires.1 c.loop-left-test.true (found c.before))
 
 pub loop-left-preserved : goal.loop-left-preserved
 loop-left-preserved c =
-    rw c.difference-left.ensures (collect_one _ _ _ _ (fits c.before.before.before.before.before.before.before.before) c.loop-left.invariant c.requires.1 c.loop-left-test.true (found c.before))
+    rw c.difference-left.ensures (collect_one _ _ _ _ (fits c.before.before.before.before.before) c.loop-left.invariant c.requires.1 c.loop-left-test.true (found c.before))
 
 pub shape_of-list : goal.shape_of-list
 shape_of-list c = c.loop-left.invariant.long
 
 pub returns : goal.returns
-returns c =all_collected _ _ _ _ (fits c.before.before.before.before.before) c.loop-left.invariant c.requires.1 (le-zero c.loop-left-test.false)
+returns c = all_collected _ _ _ _ (fits c.before.before) c.loop-left.invariant c.requires.1 (le-zero c.loop-left-test.false)

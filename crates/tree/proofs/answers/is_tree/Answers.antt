@@ -14,38 +14,33 @@ use Rattle.tree.specs.inner.Grow.{tree_of}
 use Rattle.tree.proofs.Building.{answers_all}
 use Rattle.tree.proofs.answers.is_tree.Goals as goal
 
-abbrev begun : goal.After-write_tree-written → goal.Start
-begun c = c.before.before.before
-
 abbrev c_of : goal.After-write_tree-written → Content
-c_of c = tree_of (begun c).args.tree
+c_of c = tree_of c.@0.args.tree
 
-wrote : (c : goal.After-write_tree-written) → c.write_tree-written.result ≡ written (c_of c)
-wrote c = (answers_all c.write_tree-written.ensures refl (begun c).requires.1).0
-
-abbrev at_write : goal.In-Taken → goal.After-write_tree-written
-at_write c = c.before.before.before.before
-
-size_is : (c : goal.In-Taken) → c.in-Taken.size ≡ length_of (c_of (at_write c))
-size_is c = let e = sym c.in-Taken.is ∙ wrote (at_write c) in cc
+size_is : (c : goal.In-Taken) → c.in-Taken.size ≡ length_of (c_of c.before.before.before.before)
+size_is c =
+    let wrote : c.write_tree-written.result ≡ written (c_of c.before.before.before.before) =
+        (answers_all c.write_tree-written.ensures refl c.requires.1).0 in
+    let e = sym c.in-Taken.is ∙ wrote in cc
 
 pub returns-in-Taken : goal.returns-in-Taken
 returns-in-Taken c =
-    let at = at_write c.before.before in
-    let output = (answers_all at.write-tree.ensures refl (begun at).pre.1).1 in
-    c.same.ensures ∙ ap (equal (begun at).args.file.now)
-    (ap (take c.in-Taken.size) output ∙ front_is (file_of (c_of at)) _ _ (length_file (c_of at) ∙ sym (size_is c.before.before)))
+    let output = (answers_all c.write_tree-written.ensures refl c.requires.1).1 in
+    c.same.ensures ∙ ap (equal c.args.file.now)
+    (ap (take c.in-Taken.size) output ∙ front_is (file_of (c_of c.before.before.before.before.before.before)) _ _ (length_file (c_of c.before.before.before.before.before.before) ∙ sym (size_is c.before.before)))
 
 pub returns-in-Refused : goal.returns-in-Refused
 returns-in-Refused c =
-    let e = sym c.in-Refused.is ∙ wrote c.before.before.before in
+    let wrote : c.write_tree-written.result ≡ written (c_of c.before.before.before) =
+        (answers_all c.write_tree-written.ensures refl c.requires.1).0 in
+    let e = sym c.in-Refused.is ∙ wrote in
     absurd (let z : ◌≡◌ {A = ℕ} 0 1 = cc in omega arith)
 
 pub write_tree-written-requires : goal.write_tree-written-requires
 write_tree-written-requires c = c.requires.0
 
 pub slice_bounds-own-end : goal.slice_bounds-own-end
-slice_bounds-own-end c = omega (arith, size_is c, (begun (at_write c)).requires.2)
+slice_bounds-own-end c = omega (arith, size_is c, c.requires.2)
 
 pub slice_bounds-same-end : goal.slice_bounds-same-end
-slice_bounds-same-end c = sym (length-take-le _ _ (omega (arith, size_is c.before, (begun (at_write c.before)).requires.2)))
+slice_bounds-same-end c = sym (length-take-le _ _ (omega (arith, size_is c.before, c.requires.2)))

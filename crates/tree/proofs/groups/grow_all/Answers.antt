@@ -6,25 +6,16 @@ use Rattle.taxa.specs.Sets.{all}
 use Rattle.taxa.proofs.Counts.{count_le}
 use Rattle.tree.proofs.groups.grow_all.Goals as goal
 
-abbrev begun : goal.After-all → goal.Start
-begun c = c.before.before.before.before.before
-
-abbrev given : goal.After-tree-1 → goal.After-all
-given c = c.before.before.before.before.before.before.before.before
-
-abbrev grown : goal.After-list-2-1 → goal.After-grow
-grown c = c.before.before
-
 pub grow-requires : goal.grow-requires
 grow-requires c =
-    let p = (begun (given c)).requires in
-    rw (given c).all.ensures (
+    let p = c.requires in
+    rw c.all.ensures (
       (
         p.0.0,
         omega (
           arith,
           count_le 64
-              (all (begun (given c)).args.n),
+              (all c.args.n),
         ),
         p.0.1,
         record { joins = refl; limits = refl; offsets = refl; spare = record { counts = refl; tree = refl } },
@@ -33,7 +24,7 @@ grow-requires c =
     )
 
 pub returns : goal.returns
-returns c = let walk = (grown c).grow.ensures in rw (← (given (grown c).before).all.ensures) (walk.0, walk.1)
+returns c = let walk = c.grow.ensures in rw (← c.all.ensures) (walk.0, walk.1)
 
 pub overflow_cast-n : goal.overflow_cast-n
 overflow_cast-n c = omega (arith, c.requires.0.0.loaded.taxa)

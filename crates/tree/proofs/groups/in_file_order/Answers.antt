@@ -8,32 +8,26 @@ use Rattle.tree.proofs.Lists.{total_of}
 use Rattle.tree.proofs.Writing.{tree_held}
 use Rattle.tree.proofs.groups.in_file_order.Goals as goal
 
-abbrev begun : goal.After-in_order-groups → goal.Start
-begun c = c.before.before.before.before.before
-
-abbrev put_in_order : goal.After-sum_costs-total → goal.After-in_order-groups
-put_in_order c = c.before.before.before.before
-
 -- The sum is the total of the groups in file order.
 sum_is : (c : goal.After-sum_costs-total)
-    → let a = (begun (put_in_order c)).args in c.sum_costs-total.result ≡ total (ordered 64 a.n (first_groups a.walked.now a.paid.now a.k))
-sum_is c = let order = (put_in_order c).in_order in c.sum_costs-total.ensures ∙ sym (total_of _ _ order.result) ∙ ap total order.ensures.1
+    → let a = c.args in c.sum_costs-total.result ≡ total (ordered 64 a.n (first_groups a.walked.now a.paid.now a.k))
+sum_is c = let order = c.in_order-groups in c.sum_costs-total.ensures ∙ sym (total_of _ _ order.result) ∙ ap total order.ensures.1
 
 pub sum_costs-total-requires : goal.sum_costs-total-requires
 sum_costs-total-requires c =
-    let p = (begun c.before.before.before).requires in
+    let p = c.requires in
     let total = ap total (sym c.in_order-groups.ensures.1) ∙ total_of _ _ c.in_order-groups.result in
     (omega (arith, p.few, c.in_order-groups.ensures.0), omega (arith, p.small, total))
 
 pub returns : goal.returns
 returns c =
-    let order = (put_in_order c).in_order in
-    let start = begun (put_in_order c) in (
-      tree_held start.args.n start.args.m 0
+    let order = c.in_order-groups in
+    (
+      tree_held c.args.n c.args.m 0
           (record {
-            taxa_room = omega (arith, start.pre.few, order.ensures.0, order.kept.1.1.1.1.0);
+            taxa_room = omega (arith, c.requires.few, order.ensures.0, order.kept.1.1.1.1.0);
             costs_room = omega
-                (arith, start.pre.few, order.ensures.0, order.kept.1.1.1.1.1.0);
+                (arith, c.requires.few, order.ensures.0, order.kept.1.1.1.1.1.0);
           })
           order.ensures.0 order.ensures.1 (sum_is c),
       refl,

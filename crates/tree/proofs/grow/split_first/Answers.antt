@@ -15,28 +15,22 @@ in_front : {ws P os zs os' zs' : List ℕ} {S : ℕ} {list list' : List ℕ} {co
 in_front {ws} {os' = os'} {zs'} more-ones more-zeros h =
     rw (take_at os' more-ones (length ws) h.parallel.ones, take_at zs' more-zeros (length ws) h.parallel.zeros) h
 
-abbrev begun : goal.After-slice_known-3-1 → goal.Start
-begun c = c.before.before.before.before
-
-abbrev split : goal.After-slice_known-6-1 → goal.After-split_group
-split c = c.before.before.before.before.before.before.before
-
 pub split_group-requires : goal.split_group-requires
 split_group-requires c =
-    let p = (begun c.before.before.before.before.before.before.before.before.before).requires in
+    let p = c.requires in
     (p.0, p.1, p.2, p.3, p.4)
 
 pub returns : goal.returns
-returns c = let h = (split c).split-group.ensures in (in_front _ _ h.0, h.1, h.2)
+returns c = let h = c.split_group.ensures in (in_front _ _ h.0, h.1, h.2)
 
 pub slice_bounds-split_group-end : goal.slice_bounds-split_group-end
-slice_bounds-split_group-end c = (begun c).requires.5
+slice_bounds-split_group-end c = c.requires.5
 
 pub slice_bounds-split_group-end-2 : goal.slice_bounds-split_group-end-2
-slice_bounds-split_group-end-2 c = sym (length-take-le _ _ (begun c.before).requires.5)
+slice_bounds-split_group-end-2 c = sym (length-take-le _ _ c.requires.5)
 
 pub slice_bounds-split_group-end-3 : goal.slice_bounds-split_group-end-3
-slice_bounds-split_group-end-3 c = (begun c.before).requires.6
+slice_bounds-split_group-end-3 c = c.requires.6
 
 pub slice_bounds-split_group-end-4 : goal.slice_bounds-split_group-end-4
-slice_bounds-split_group-end-4 c = sym (length-take-le _ _ (begun c.before.before).requires.6)
+slice_bounds-split_group-end-4 c = sym (length-take-le _ _ c.requires.6)
