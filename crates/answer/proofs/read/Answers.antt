@@ -1,13 +1,12 @@
 -- `answer::read` meets its contract: the file's tests and the room decide, and only then is the list filled.
-use borrow.Author.Rules.{rules}
-use mathlib.Core.Path.{◌≡◌, sym, ap, ◌∙◌}
+use mathlib.Core.Path.{sym, ap, ◌∙◌}
 use Prim.Native.Nat.{◌≤◌}
 use Rattle.record.specs.Records.{passed_refusal}
 use Rattle.record.specs.declared.Passed.TheVariants.{Refused}
 use Rattle.answer.specs.declared.Answer.{Answer}
 use Rattle.answer.specs.declared.Verdict.TheVariants as verdict
 use Rattle.answer.specs.Content.{flip_count}
-use Rattle.answer.specs.Reading.{listed, file_tests}
+use Rattle.answer.specs.Reading.{listed}
 use Rattle.answer.proofs.Outcomes.{file_refused, no_room, taken, laid}
 use native.Mathlib.Omega.{arith}
 use Rattle.answer.proofs.read.Goals as goal
@@ -31,10 +30,10 @@ fill-requires c =
     let l = laid _ (sym c.in-At.is ∙ c.pass_file-passed.ensures) in
     let f = c.u16_at-flips.ensures in
     let r : flip_count c.args.file.now ≤ listed c.args.columns.now c.args.raised.now c.args.lowered.now =
-        omega (arith, c.least.ensures, f, c.if-least-flips.false) in
+    omega (arith, c.least.ensures, f, c.if-least-flips.false) in
     record {
-        flips_in_bounds = omega (arith, l.end_at, c.u16_at-groups.ensures, f);
-        flips_in_bounds_2 = (omega (arith, r, f), omega (arith, r, f), omega (arith, r, f))
+      flips_in_bounds = omega (arith, l.end_at, c.u16_at-groups.ensures, f);
+      flips_in_bounds_2 = (omega (arith, r, f), omega (arith, r, f), omega (arith, r, f));
     }
 
 pub answer_in-answer-requires : goal.answer_in-answer-requires

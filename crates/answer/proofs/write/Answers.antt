@@ -1,5 +1,4 @@
 -- `answer::write` meets its contract: the tests and the room decide, and only then is the file written.
-use borrow.Author.Rules.{rules}
 use mathlib.Core.Path.{◌≡◌, sym, ap, ◌∙◌}
 use mathlib.Core.List.{List}
 use Prim.Native.Nat.{ℕ}
@@ -37,9 +36,9 @@ put_answer-requires c =
     let t = tested s.answer s.columns.now s.raised.now s.lowered.now _ _ c.least-entries.ensures c.pass_given-passed.ensures in
     let k = given_head_kept _ _ s.out.now (sym c.in-At.is ∙ t) in
     record {
-        groups_bound = (omega (arith, k.few, k.fewer), omega arith);
-        flips_in_bounds = (omega (arith, k.all_listed), omega (arith, k.all_listed), omega (arith, k.all_listed));
-        by_index = column_fits s.answer s.columns.now s.raised.now s.lowered.now _ (sym c.in-At.is ∙ t)
+      groups_bound = (omega (arith, k.few, k.fewer), omega arith);
+      flips_in_bounds = (omega (arith, k.all_listed), omega (arith, k.all_listed), omega (arith, k.all_listed));
+      by_index = column_fits s.answer s.columns.now s.raised.now s.lowered.now _ (sym c.in-At.is ∙ t);
     }
 
 pub returns : goal.returns

@@ -1,5 +1,4 @@
 -- `answer::given::pass_given` meets its contract: each stage that refuses stops the tests, and the last one ends them.
-use borrow.Author.Rules.{rules}
 use mathlib.Core.Path.{◌≡◌, sym, ◌∙◌}
 use mathlib.Core.List.{List}
 use Prim.Native.Nat.{ℕ, ◌+◌, ◌*◌}
@@ -10,7 +9,7 @@ use Rattle.record.specs.declared.Passed.{Passed}
 use Rattle.record.specs.declared.Passed.TheVariants.{At}
 use Rattle.answer.specs.declared.Answer.{Answer}
 use Rattle.answer.specs.Content.{Content, content_of}
-use Rattle.answer.specs.Rules.{head_fault, total_fault, sum_of}
+use Rattle.answer.specs.Rules.{head_fault, total_fault}
 use Rattle.answer.specs.Tests.{as_given, judge, walk, group_test, flips_test, head_test, end_test}
 use Rattle.answer.proofs.Kept.{HeadKept}
 use Rattle.answer.proofs.Walks.{given_head, given_groups_move, given_flips_move}
@@ -77,8 +76,8 @@ given_flips-listed-requires c =
     let k = (leads a.answer a.columns.now a.raised.now a.lowered.now a.entries (sym c.in-At.is ∙ h)).0 in
     let at = lead a.answer a.columns.now a.raised.now a.lowered.now a.entries (sym c.in-At.is ∙ h) (sym c.in-At-groups.is ∙ g) in
     record {
-        n_bound = (k.few, k.columns, omega (arith, k.columns, k.flips_fit), omega (arith, k.few, k.fewer, at));
-        flips_in_bounds = (omega (arith, k.all_listed, c.requires.0), omega (arith, k.all_listed, c.requires.1), omega (arith, k.all_listed, c.requires.2))
+      n_bound = (k.few, k.columns, omega (arith, k.columns, k.flips_fit), omega (arith, k.few, k.fewer, at));
+      flips_in_bounds = (omega (arith, k.all_listed, c.requires.0), omega (arith, k.all_listed, c.requires.1), omega (arith, k.all_listed, c.requires.2));
     }
 
 pub returns-in_default-listed : goal.returns-in_default-listed

@@ -1,5 +1,4 @@
 -- `answer::writer::put_answer` meets its contract: each record is written where the one before it ends.
-use borrow.Author.Rules.{rules}
 use lib.ListN.{length-append}
 use Rattle.record.proofs.Over.{next}
 use Rattle.answer.proofs.Pieces.{length_head, length_groups, length_all_flips}
