@@ -26,4 +26,4 @@ unfolding column_passed
 returns c =
     let found : c.read-step.result ≡ step c.args.file.now c.args.here.at (record_of records.column) =
         rw (← c.of.ensures) c.read-step.ensures in
-    rw (c.judge.ensures, c.read.ensures, ← found c.before.before.before.before.before, c.in-Payload.is)
+    rw (c.judge.ensures, c.read.ensures, ← found, c.in-Payload.is)

@@ -18,4 +18,4 @@ unfolding end_passed
 returns c =
     let found : c.read-step.result ≡ step c.args.file.now c.args.here.at (record_of records.matrix_end) =
         rw (← c.of.ensures) c.read-step.ensures in
-    rw (c.nothing_after.ensures, ← found c.before.before.before.before, c.in-Payload.is)
+    rw (c.nothing_after.ensures, ← found, c.in-Payload.is)
