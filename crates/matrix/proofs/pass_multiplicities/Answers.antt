@@ -1,14 +1,10 @@
 -- `matrix::pass_multiplicities` meets its contract: another record is left where it is, a refused step goes straight out, and else the multiplicities are
 -- judged.
-use borrow.Author.Rules.{rules}
 use native.Mathlib.Omega.{arith}
-use borrow.Author.Tests.{not-true, not-false}
 use Prim.Native.Nat.{◌+◌, ◌-◌}
-use mathlib.Core.Bool.{true}
 use mathlib.Core.Path.{◌≡◌, sym, ◌∙◌}
 use Rattle.record.specs.Records.{step, multiplicity_record}
 use Rattle.record.proofs.Steps.{Held, held}
-use Rattle.matrix.specs.Matrix.{has_multiplicities}
 use Rattle.matrix.specs.Check.{multiplicities_passed}
 use Rattle.matrix.proofs.pass_multiplicities.Goals as goal
 
@@ -19,7 +15,7 @@ taken : (c : goal.In-Payload) →
 taken c =
     let found : (let args = c.args in
     c.read-step.result ≡ step args.file.now args.here.at (multiplicity_record args.n)) =
-        rw (← c.multiplicities.ensures) c.read-step.ensures in
+    rw (← c.multiplicities.ensures) c.read-step.ensures in
     held (sym c.in-Payload.is ∙ found)
 
 pub returns-then-not-has_multiplicities : goal.returns-then-not-has_multiplicities
@@ -31,7 +27,7 @@ unfolding multiplicities_passed
 returns-in_default c =
     let found : (let args = c.args in
     c.read-step.result ≡ step args.file.now args.here.at (multiplicity_record args.n)) =
-        rw (← c.multiplicities.ensures) c.read-step.ensures in
+    rw (← c.multiplicities.ensures) c.read-step.ensures in
     rw (c.refusal.ensures, sym c.has_multiplicities.ensures ∙ c.if-not-has_multiplicities.false, ← found, c.in_default.is)
 
 pub overflow_add-at : goal.overflow_add-at
@@ -45,7 +41,7 @@ unfolding multiplicities_passed
 returns c =
     let found : (let args = c.args in
     c.read-step.result ≡ step args.file.now args.here.at (multiplicity_record args.n)) =
-        rw (← c.multiplicities.ensures) c.read-step.ensures in
+    rw (← c.multiplicities.ensures) c.read-step.ensures in
     let args = c.args in
     let n : c.in-Payload.at + args.n - c.in-Payload.at ≡ args.n = omega arith in
     rw (sym c.has_multiplicities.ensures ∙ c.if-not-has_multiplicities.false, ← found, c.in-Payload.is, ← n) c.judge_multiplicities.ensures

@@ -1,5 +1,4 @@
 -- `matrix::planes_in` meets its contract: the bytes it hands on are the multiplicities.
-use borrow.Author.Rules.{rules}
 use native.Mathlib.Omega.{arith}
 use mathlib.Core.Path.{◌≡◌}
 use Prim.Native.Nat.{◌+◌, ◌-◌}

@@ -1,6 +1,5 @@
 -- `matrix::Column::judge` meets its contract: each return is a row of a column's table.
-use borrow.Author.Rules.{rules}
-use mathlib.Core.Path.{◌≡◌, sym, ◌∙◌}
+use mathlib.Core.Path.{sym, ◌∙◌}
 use native.Mathlib.Omega.{arith}
 use Rattle.matrix.proofs.Judging.{no_weight, unknown_one, unknown_zero, in_both, column_taken}
 use Rattle.matrix.proofs.Column.judge.Goals as goal
