@@ -33,7 +33,7 @@ pub returns-then-cut-best : goal.returns-then-cut-best
 returns-then-cut-best c =
     let is_largest : (let a = c.args in
     Largest a.weights.now a.planes.now a.joined.now a.limits.now a.n a.m c.largest-cut.new.ws (a.group ∩ all a.u) a.u a.best.cost c.largest-cut.result.size c.largest-cut.result.side) =
-        rw (c.common.ensures ∙ ap (λ (y : ℕ). c.args.group ∩ y) c.all.ensures) at c.largest-cut.ensures.0 in
+    rw (c.common.ensures ∙ ap (λ (y : ℕ). c.args.group ∩ y) c.all.ensures) at c.largest-cut.ensures.0 in
     let a = c.args in
     let p = c.requires in
     let s = low_in a.n (in_pos (record { is = sym c.contains.ensures ∙ c.if-not-contains.false })) p.2 in
@@ -43,5 +43,5 @@ pub returns-else-cut-best : goal.returns-else-cut-best
 returns-else-cut-best c =
     let is_largest : (let a = c.args in
     Largest a.weights.now a.planes.now a.joined.now a.limits.now a.n a.m c.largest-cut.new.ws (a.group ∩ all a.u) a.u a.best.cost c.largest-cut.result.size c.largest-cut.result.side) =
-        rw (c.common.ensures ∙ ap (λ (y : ℕ). c.args.group ∩ y) c.all.ensures) at c.largest-cut.ensures.0 in
+    rw (c.common.ensures ∙ ap (λ (y : ℕ). c.args.group ∩ y) c.all.ensures) at c.largest-cut.ensures.0 in
     (λ bound r. tried_worse r (is_largest) (omega arith), c.largest-cut.ensures.1, c.largest-cut.ensures.2)

@@ -14,8 +14,7 @@ reach-requires c =
 
 pub returns : goal.returns
 returns c =
-    let f = c.reach.ensures in
-    (
+    let f = c.reach.ensures in (
       record { low = f.0.tree.low; all = f.0.all (record { none = λ x h. absurd (true≢false (sym h ∙ has_none x)) }) },
       rw (c.requires.0.offsets.is c.args.m (omega arith)) at c.clear_places.ensures,
       record { counts = c.unused.ensures.long; tree = f.1 },

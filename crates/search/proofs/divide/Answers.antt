@@ -64,8 +64,7 @@ by_flows-requires c =
     let room : sizes a.m (nth c.network_of.new.joined) ≤ length a.ws.now = omega (arith, arcs, p.1) in
     let emptied = cleared_kept a.ws.now c.connected-met.ensures.1 room in
     -- What ties the taxa went behind the limits, which are as they were.
-    let still = limits_still g.columns c.ties_of.ensures.2 e.1 in
-    (
+    let still = limits_still g.columns c.ties_of.ensures.2 e.1 in (
       net g e.0 still c.offsets_of.ensures (λ k b. omega (arith, c.type_inv.weights k)),
       omega (arith, room, emptied.long),
       g.group,

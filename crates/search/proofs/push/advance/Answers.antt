@@ -46,12 +46,11 @@ pub contains-requires : goal.contains-requires
 contains-requires c = omega (arith, t_low c.requires.0)
 
 pub returns-then-not-contains : goal.returns-then-not-contains
-returns-then-not-contains c =
-    (
-      stayed c.requires.0 c.reach-met.ensures.0 c.single-goal.ensures (sym c.contains.ensures ∙ c.if-not-contains.true),
-      kept_none (sizes c.args.m (nth c.args.joined.now)) c.args.ws.now,
-      c.reach-met.ensures.1,
-    )
+returns-then-not-contains c = (
+  stayed c.requires.0 c.reach-met.ensures.0 c.single-goal.ensures (sym c.contains.ensures ∙ c.if-not-contains.true),
+  kept_none (sizes c.args.m (nth c.args.joined.now)) c.args.ws.now,
+  c.reach-met.ensures.1,
+)
 
 pub overflow_mul-d : goal.overflow_mul-d
 overflow_mul-d c = omega (arith, t_low c.requires.0)
@@ -128,7 +127,7 @@ overflow_add-result c =
     -- All of the path has been pushed: the loop ends at a source.
     let pushed : Advanced a.weights.now a.planes.now a.joined.now a.limits.now a.offsets.now a.n a.m c.loop-j.ws c.loop-j.used a.sources a.t a.size
     (a.size + width_of r.new.tree a.t) r.result =
-        went c.loop-j.invariant (is_root c.loop-j.invariant (omega arith)) met (r.ensures.0.tree.link a.t met c.requires.0.apart).some in
+    went c.loop-j.invariant (is_root c.loop-j.invariant (omega arith)) met (r.ensures.0.tree.link a.t met c.requires.0.apart).some in
     omega (arith, size_small pushed.stage.flowing)
 
 pub shape_of-ws : goal.shape_of-ws
@@ -142,5 +141,5 @@ returns c =
     -- All of the path has been pushed: the loop ends at a source.
     let pushed : Advanced a.weights.now a.planes.now a.joined.now a.limits.now a.offsets.now a.n a.m c.loop-j.ws c.loop-j.used a.sources a.t a.size
     (a.size + width_of r.new.tree a.t) r.result =
-        went c.loop-j.invariant (is_root c.loop-j.invariant (omega arith)) met (r.ensures.0.tree.link a.t met c.requires.0.apart).some in
+    went c.loop-j.invariant (is_root c.loop-j.invariant (omega arith)) met (r.ensures.0.tree.link a.t met c.requires.0.apart).some in
     (pushed, c.loop-j.invariant.kept, c.reach-met.ensures.1)

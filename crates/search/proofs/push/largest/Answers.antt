@@ -57,7 +57,7 @@ shape_of-ws c =
     let a = c.args in
     let clear = rw (c.requires.0.offsets.is a.m (omega arith)) at c.clear_places.ensures in
     let kept : Kept (sizes a.m (nth a.joined.now)) a.ws.now c.loop-ws.ws =
-        kept_then (cleared_kept a.ws.now clear c.requires.1) (kept_then c.direct_hops-size.ensures.1 c.loop-ws.invariant.1) in
+    kept_then (cleared_kept a.ws.now clear c.requires.1) (kept_then c.direct_hops-size.ensures.1 c.loop-ws.invariant.1) in
     kept.long
 
 pub returns : goal.returns
@@ -65,7 +65,7 @@ returns c =
     let a = c.args in
     let clear = rw (c.requires.0.offsets.is a.m (omega arith)) at c.clear_places.ensures in
     let kept : Kept (sizes a.m (nth a.joined.now)) a.ws.now c.loop-ws.ws =
-        kept_then (cleared_kept a.ws.now clear c.requires.1) (kept_then c.direct_hops-size.ensures.1 c.loop-ws.invariant.1) in
+    kept_then (cleared_kept a.ws.now clear c.requires.1) (kept_then c.direct_hops-size.ensures.1 c.loop-ws.invariant.1) in
     let v = c.loop-ws.invariant in
     let f = v.0.flowing in (
       record { flow = f.flow; small = size_small f; side = v.0.side; stops = c.grows.ensures.1 c.loop-ws-test.false },

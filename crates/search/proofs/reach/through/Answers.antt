@@ -94,10 +94,10 @@ loop-left-preserved c =
     let takes = c.gate_at-gate.result.weight * multiplicity_in a.planes.now j + flow.out - flow.inn in
     let free = max c.gate_at-gate.result.free flow.out in
     let offers : c.carry_to-k.result ≡ min (carried a.weights.now a.planes.now a.joined.now a.limits.now a.n a.ws.now a.c a.i j) (width_of v.tree a.i) =
-        c.carry_to-k.ensures
-        ∙ ap (λ (s : ℕ). min (min s takes) free) c.least.ensures
-        ∙ min_first c.gate_at-gate.result.sends (width_of a.tree.now a.i) takes free
-        ∙ ap₂ (λ (x y : ℕ). min x y) (rw (flows_j.0, flows_j.1) (gate_carry p.0 p.2 is-gate p.3 j new.0)) (sym v.invariant.2) in
+    c.carry_to-k.ensures
+    ∙ ap (λ (s : ℕ). min (min s takes) free) c.least.ensures
+    ∙ min_first c.gate_at-gate.result.sends (width_of a.tree.now a.i) takes free
+    ∙ ap₂ (λ (x y : ℕ). min x y) (rw (flows_j.0, flows_j.1) (gate_carry p.0 p.2 is-gate p.3 j new.0)) (sym v.invariant.2) in
     let apart : a.i ≢ j = λ e. true≢false (sym (v.invariant.1.keeps a.i p.4) ∙ ap (has v.all) e ∙ new.1) in
     let q : c.rest-left.result ≡ v.left ∖ 2 ^ j = c.rest-left.ensures.0 ∙ ap (λ (y : ℕ). v.left ∖ 2 ^ y) (sym c.lowest-j.ensures.0) in (
       λ x y. let z = still_in v.left j x (ap (λ (u : ℕ). has u x) (sym q) ∙ y) in ((v.invariant.0 x z.0).0, others o x z.1 ∙ (v.invariant.0 x z.0).1),
