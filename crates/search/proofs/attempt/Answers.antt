@@ -1,10 +1,8 @@
 -- `search::attempt` meets its contract: a taxon that is not in the group, one that is tied too fast, one that is parted for less, or for no less.
-use borrow.Author.Rules.{rules}
 use native.Mathlib.Omega.{arith}
-use mathlib.Core.Path.{◌≡◌, sym, ap, ◌∙◌}
-use mathlib.Core.Bool.{true}
+use mathlib.Core.Path.{sym, ap, ◌∙◌}
 use Prim.Native.Nat.{ℕ}
-use Rattle.taxa.specs.Sets.{has, all, ◌∩◌, sizes}
+use Rattle.taxa.specs.Sets.{all, ◌∩◌, sizes}
 use Rattle.taxa.proofs.Members.{in_pos, low_in}
 use Rattle.search.specs.Search.{nth}
 use Rattle.search.specs.inner.Flows.{Largest}

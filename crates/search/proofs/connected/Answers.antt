@@ -1,5 +1,4 @@
 -- `search::connected` meets its contract: it reaches past no flow.
-use borrow.Author.Rules.{rules}
 use native.Mathlib.Omega.{arith}
 use mathlib.Core.Bool.{true≢false}
 use mathlib.Core.Path.{sym, ◌∙◌}

@@ -1,20 +1,14 @@
 -- `search::divide` meets its contract: the lists hold the group's network, the places are as many as it has arcs, and it is in parts already or flows
 -- decide.
-use borrow.Author.Rules.{rules}
 use native.Mathlib.Omega.{arith}
-use mathlib.Core.Path.{◌≡◌, sym, ◌∙◌}
-use mathlib.Core.List.{List}
-use Prim.Native.Nat.{ℕ, ◌≤◌, ◌<◌, ◌^◌}
+use mathlib.Core.Path.{sym, ◌∙◌}
+use Prim.Native.Nat.{◌≤◌}
 use lib.ListN.{length}
 use lib.Pow.{pow-lt}
-use Rattle.taxa.specs.Sets.{sizes, low}
+use Rattle.taxa.specs.Sets.{sizes}
 use Rattle.taxa.proofs.Counts.{count_pos}
 use Rattle.taxa.proofs.Members.{below}
-use Rattle.method.specs.Flow.{arc_count}
-use Rattle.search.specs.Search.{cols_of, nth, Spare, Lent}
-use Rattle.search.specs.Workspace.{Kept}
-use Rattle.search.specs.inner.Network.{Net}
-use Rattle.search.specs.inner.Trying.{Limits}
+use Rattle.search.specs.Search.{nth}
 use Rattle.search.proofs.Workspace.{cleared_kept, kept_then}
 use Rattle.search.proofs.Bonds.{limits_still}
 use Rattle.search.proofs.Group.{source_is, net, arcs_are, divided_free}

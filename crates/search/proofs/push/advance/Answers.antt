@@ -1,17 +1,15 @@
 -- `push::advance` meets its contract. The invariant: the path from t back to j has been pushed.
-use borrow.Author.Rules.{rules}
 use native.Mathlib.Omega.{arith}
-use mathlib.Core.Bool.{true}
 use mathlib.Core.List.{List}
 use lib.IntN.{ℤ}
-use mathlib.Core.Path.{◌≡◌, sym, ◌∙◌}
-use Prim.Native.Nat.{ℕ, ◌+◌, ◌*◌, ◌<◌}
-use Rattle.taxa.specs.Sets.{has, sizes}
+use mathlib.Core.Path.{sym, ◌∙◌}
+use Prim.Native.Nat.{ℕ, ◌+◌, ◌<◌}
+use Rattle.taxa.specs.Sets.{sizes}
 use Rattle.search.specs.Search.{nth}
 use Rattle.search.specs.inner.Flows.{Flowing, Advanced}
-use Rattle.search.specs.inner.Reaching.{width_of, turn_of}
+use Rattle.search.specs.inner.Reaching.{width_of}
 use Rattle.search.proofs.Workspace.{kept_none}
-use Rattle.search.proofs.Flows.{Under, under_start, under_low, not_root, is_root, under_via, under_turn, can_hop, under_step, stayed, went, size_small}
+use Rattle.search.proofs.Flows.{under_start, under_low, not_root, is_root, under_via, under_turn, can_hop, under_step, stayed, went, size_small}
 use Rattle.search.proofs.push.advance.Goals as goal
 
 -- t is one of 64 taxa.

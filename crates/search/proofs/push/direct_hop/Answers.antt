@@ -1,14 +1,12 @@
 -- `push::direct_hop` meets its contract: the column does not join t, or no source, or the hop makes the flow larger by what it carries.
-use borrow.Author.Rules.{rules}
 use native.Mathlib.Omega.{arith}
 use mathlib.Core.Bool.{true}
 use mathlib.Core.List.{List}
 use lib.IntN.{ℤ}
 use mathlib.Core.Path.{◌≡◌, sym, ◌∙◌}
-use Prim.Native.Nat.{ℕ, ◌+◌, ◌*◌, ◌<◌}
+use Prim.Native.Nat.{ℕ, ◌+◌, ◌<◌}
 use Rattle.taxa.specs.Sets.{has, sizes, ◌∈◌, ◌∩◌}
 use Rattle.taxa.proofs.Members.{in∩}
-use Rattle.search.specs.Workspace.{outs, inns, Kept}
 use Rattle.search.specs.Search.{nth}
 use Rattle.search.specs.inner.Reaching.{carried}
 use Rattle.search.specs.inner.Flows.{Flowing}

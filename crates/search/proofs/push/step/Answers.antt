@@ -1,10 +1,7 @@
 -- `push::step` meets its contract: the count grows by what the two entries do.
-use borrow.Author.Rules.{rules}
 use native.Mathlib.Omega.{arith}
 use mathlib.Core.Path.{◌≡◌}
-use mathlib.Core.List.{List}
-use Prim.Native.Nat.{ℕ, ◌+◌, ◌*◌, ◌^◌, ◌<◌}
-use lib.IntN.{ℤ}
+use Prim.Native.Nat.{◌+◌, ◌*◌, ◌^◌, ◌<◌}
 use lib.ListN.{length}
 use Rattle.taxa.specs.Sum.{sum}
 use Rattle.search.specs.Workspace.{outs}

@@ -1,5 +1,4 @@
 -- `reach::pass` meets its contract: all that the column joins is met, or nobody sends, or one who leads wherever the others lead.
-use borrow.Author.Rules.{rules}
 use mathlib.Core.Path.{sym, ◌∙◌}
 use Rattle.taxa.specs.Sets.{◌∩◌}
 use Rattle.taxa.proofs.Members.{within_⊆, ∩-⊆, in∩}

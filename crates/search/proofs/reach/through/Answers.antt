@@ -1,18 +1,16 @@
 -- `reach::through` meets its contract. The invariant: the taxa left are those that the column joins and that are not met, and the way to i is as it was.
-use borrow.Author.Rules.{rules}
 use native.Mathlib.Omega.{arith}
 use mathlib.Core.Path.{◌≡◌, refl, sym, ap, ap₂, ◌∙◌}
-use mathlib.Core.Bool.{true, false, true≢false}
+use mathlib.Core.Bool.{true, true≢false}
 use mathlib.Core.Logic.{◌≢◌}
 use mathlib.Core.List.{List}
 use lib.IntN.{ℤ}
 use Prim.Native.Nat.{ℕ, ◌+◌, ◌-◌, ◌*◌, ◌^◌, ◌<◌, min, max}
 use Rattle.taxa.specs.Sets.{has, ◌∖◌, multiplicity_in}
 use Rattle.taxa.proofs.Counts.{count_le}
-use Rattle.search.specs.Workspace.{outs, inns}
 use Rattle.search.specs.Search.{nth}
 use Rattle.search.specs.inner.Network.{Ready}
-use Rattle.search.specs.inner.Reaching.{carried, turn_of, width_of, Passed}
+use Rattle.search.specs.inner.Reaching.{carried, width_of}
 use Rattle.search.proofs.Reaching.{min_first, pair, gate_of, pair_asks, entry, used_fits, gate_carry, pass_start, pass_one, others, other_width, still_in, off_in}
 use Rattle.search.proofs.reach.through.Goals as goal
 
