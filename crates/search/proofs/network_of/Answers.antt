@@ -41,8 +41,8 @@ loop-c-preserved c =
     let a = c.args in
     let v = c.loop-c.invariant in
     let b : c.loop-c.c < 256 = omega (arith, c.requires.0) in
-    let z = c.common in
-    let fits : z.result < 2 ^ 64 = omega (arith, z.ensures, ∩-≤ (nth a.zeros.now c.loop-c.c) a.group, c.fits.group.fits) in (
+    let z = c.common-z in
+    let fits : z.result < 2 ^ 64 = omega (arith, z.ensures, ∩-≤ (nth a.zeros.now c.loop-c.c) a.group, c.ranges.group.fits) in (
       omega arith,
       table_next v.1 b (c.unless_none.ensures ∙ ap₂ (λ (t : Bool) (x : ℕ). cond t x 0) (some_count fits ∙ ap (λ (x : ℕ). ltb 0 (count 64 x)) z.ensures) c.common.ensures),
       table_next v.2 (omega (arith, b)) (ap₂ (λ (x y : ℕ). x * y) c.wide.ensures.0 (c.mass_in.ensures.0 ∙ ap (mass 64 (multiplicity_in a.planes.now)) z.ensures)),

@@ -27,7 +27,7 @@ loop-c-init c = (omega arith, refl, table_start (λ e. sizes e (nth c.args.joine
 pub loop-c-preserved : goal.loop-c-preserved
 loop-c-preserved c =
     let l = c.loop-c in
-    (omega arith, next c, table_next l.inv.2 (omega (arith, c.requires.0)) l.inv.1)
+    (omega arith, next c, table_next l.invariant.2 (omega (arith, c.requires.0)) l.invariant.1)
 
 pub returns : goal.returns
 returns c =

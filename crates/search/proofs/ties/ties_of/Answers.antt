@@ -26,8 +26,8 @@ tie_column-requires c =
 
 pub loop-c-preserved : goal.loop-c-preserved
 loop-c-preserved c =
-    let v = c.loop-c.inv in
-    let e = rw c.common.ensures c.before.before.before.before.before.before.before.before c.tie_column.ensures in (
+    let v = c.loop-c.invariant in
+    let e = rw c.common.ensures at c.tie_column.ensures in (
       omega arith,
       ties_next (omega arith) e v.1,
       weighed_next (omega arith) e v.2,
