@@ -18,7 +18,7 @@ use Rattle.grammar.specs.Reader.{State, before, naming, after, step, start, endi
 use Rattle.grammar.specs.Verdict.{Verdict, refused, too_long}
 use Rattle.grammar.specs.Faults.{Refusal, at, FirstOf, end_faults, name_faults, kept, ending_there, itself, then_kept, faults}
 use Rattle.grammar.specs.Clerk.{Tally, nothing, wrongs, keep, outcome, faults_of}
-use Rattle.grammar.proofs.Order.{rank, Rising, also, Numbers, end, next}
+use Rattle.grammar.proofs.Order.{rank, Rising, done, also, Numbers, end, next}
 use Rattle.grammar.proofs.First.{First}
 use Rattle.grammar.proofs.Reading.{numbers, refuses}
 
@@ -113,6 +113,7 @@ fault_known s {f} m = let k = all_known {q = length s} s 0 start nothing (omega 
 above : {q : ℕ} {fs : List Refusal} {g : Refusal} → Rising q fs → Memᴰ g fs → q ≤ rank g
 above (also q f l x) (Memᴰ.head e) = rw e l
 above (also q f l x) (Memᴰ.tail m) = let h = above x m in omega arith
+above done l = elim l [ ]
 
 -- Ranks are by place, then by number.
 by_rank : {q : ℕ} {f g : Refusal} → Known q f → Known q g → rank f ≤ rank g → (f.place < g.place) ⊎ ((f.place ≡ g.place) × (f.number ≤ g.number))

@@ -97,3 +97,4 @@ seen_distinct ns (m ∷ ms) d = seen_distinct (with ns m (is_in m ns)) ms (with_
 pub apart : {n : Bytes} {ns ms : List Bytes} → Distinct ns ms → Memᴰ n ns → Memᴰ n ms → ⊥
 apart (next e d) h (Memᴰ.head f) = true≢false (sym (mem_is_in (rw f at h)) ∙ e)
 apart (next {m} e d) h (Memᴰ.tail g) = apart d (Memᴰ.append_left (m ∷ []) h) g
+apart end h l = elim l [ ]

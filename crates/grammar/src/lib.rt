@@ -1,6 +1,7 @@
 // Newick text as document 02 has it: trees, the texts that spell them, the reader that goes byte by byte with its limits, and the text of a tree without
 // blanks. Promises the theorems of proofs/Reading.antt and proofs/Promises.antt about any text; the code tells what a byte is. Rests on nothing.
 #![tactic(auto)]
+
 ghost use Rattle.std.specs.Prelude.{◌≡◌};
 ghost use Rattle.grammar.specs.Bytes.{is_blank, is_letter};
 

@@ -12,7 +12,7 @@ use Rattle.taxa.proofs.Counts.{count_in, count_<, count_some, count_pow}
 use Rattle.method.specs.Split.{Column, Same, split_cost, after, split_parts}
 use Rattle.method.specs.Tree.{Group, Walk, walked, node, build, Clade, group, single, Fills, Filled}
 use Rattle.method.proofs.Flips.{Proper}
-use Rattle.method.proofs.Parts.{Parts, Part, next, inside_R, cover, unique, is_part, ones_together}
+use Rattle.method.proofs.Parts.{Parts, Part, done, next, inside_R, cover, unique, is_part, ones_together}
 use Rattle.method.proofs.Entries.{same_one, same_zero, no_zero, no_one}
 use Rattle.method.proofs.Splits.{split_parts_lem, after_proper}
 use Rattle.method.proofs.Depth.{build_ind}
@@ -87,6 +87,7 @@ module _ (k : ℕ) (μ : ℕ → ℕ) (m : ℕ) where
       let proper = (build_tame k μ m pos cols P (omega (arith, ⊆-≤ s))).propers q in
       let (F, d, r, f) = walked_filled pos (omega (arith, ⊆-≤ (∖-⊆ R P))) ps (λ X y. h X (Memᴰ.tail y)) Q l (build k μ m cols P).columns proper c b in
       (F, or_more (⊆-refl Q) (λ x l. Memᴰ.append_right (build k μ m cols P).groups l) d, r, f)
+  walked_filled pos fits done h Q l cols q c b = elim l [ ]
 
   module _ (pos : Positive μ) (cols : ℕ → Column) (S : ℕ) (fits : S < 2 ^ k) (two : 1 < count k S) where
     abbrev next_cols : ℕ → Column

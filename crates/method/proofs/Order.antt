@@ -49,6 +49,7 @@ module _ (k : ℕ) (μ : ℕ → ℕ) (m : ℕ) where
       → count k P + length Ps ≤ count k R + 1
   beside (next s p ps) h (Memᴰ.head e) = rw e (omega (arith, parts_length ps (λ Q l. h Q (Memᴰ.tail l)), count_∖ k s))
   beside (next {P = P} s p ps) h (Memᴰ.tail l) = omega (arith, beside ps (λ Q l. h Q (Memᴰ.tail l)) l, h P (Memᴰ.head refl), count_∖ k s)
+  beside done h l = elim l [ ]
 
   -- Each part beside a part has a taxon of its own.
   pub split_beside : (cols : ℕ → Column) (S : ℕ) → S < 2 ^ k → 1 < count k S → {P : ℕ} → Memᴰ P (split_parts k μ m cols S)

@@ -105,6 +105,7 @@ module _ (k : ℕ) (μ : ℕ → ℕ) (m : ℕ) (cols : ℕ → Column) (S : ℕ
   pub inside_R : {R P : ℕ} {Ps : List ℕ} → Parts R Ps → Memᴰ P Ps → P ⊆ R
   inside_R (next {R} {P = Q} s p ps) (Memᴰ.head e) = subst (λ (X : ℕ). X ⊆ R) (sym e) s
   inside_R (next {R} {P = Q} s p ps) (Memᴰ.tail h) = ⊆-trans (inside_R ps h) (∖-⊆ R Q)
+  inside_R done h = elim h [ ]
 
   -- Each taxon of R is in a part,
   pub cover : {R i : ℕ} {Ps : List ℕ} → Parts R Ps → i ∈ R → (P : ℕ) × Memᴰ P Ps × i ∈ P
@@ -121,10 +122,12 @@ module _ (k : ℕ) (μ : ℕ → ℕ) (m : ℕ) (cols : ℕ → Column) (S : ℕ
   unique {i = h} (next {R} {P = X} s p ps) (Memᴰ.head e) (Memᴰ.tail l) i j = absurd (((in∖ R X).0 ((inside_R ps l).sub j)).1 (subst (λ (Y : ℕ). h ∈ Y) e i))
   unique {i = h} (next {R} {P = X} s p ps) (Memᴰ.tail l) (Memᴰ.head e) i j = absurd (((in∖ R X).0 ((inside_R ps l).sub i)).1 (subst (λ (Y : ℕ). h ∈ Y) e j))
   unique (next s p ps) (Memᴰ.tail l) (Memᴰ.tail l') i j = unique ps l l' i j
+  unique done l _ i j = elim l [ ]
 
   pub is_part : {R P : ℕ} {Ps : List ℕ} → Parts R Ps → Memᴰ P Ps → (i : ℕ) × Part i P
   is_part (next {R} s p ps) (Memᴰ.head e) = (low k R, subst (λ (X : ℕ). Part (low k R) X) (sym e) p)
   is_part (next s p ps) (Memᴰ.tail h) = is_part ps h
+  is_part done h = elim h [ ]
 
   -- There is one such list.
   pub parts_unique : {R : ℕ} {Ps Qs : List ℕ} → Parts R Ps → Parts R Qs → Ps ≡ Qs

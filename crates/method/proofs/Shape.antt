@@ -111,3 +111,4 @@ module _ (k : ℕ) where
   lined_pair {x = x} {y = y} (and a p) (Memᴰ.head e) (Memᴰ.tail l) = ahead_pair (subst (λ (z : Group). Ahead z y) (sym e) (a y l))
   lined_pair {x = x} {y = y} (and a p) (Memᴰ.tail l) (Memᴰ.head f) = pair_sym (ahead_pair (subst (λ (z : Group). Ahead z x) (sym f) (a x l)))
   lined_pair (and a p) (Memᴰ.tail l) (Memᴰ.tail l') = lined_pair p l l'
+  lined_pair end l _ = elim l [ ]

@@ -1,0 +1,36 @@
+-- `answer::reader::fill` meets its contract. The invariant: the entries filled so far stand in front of each part.
+use borrow.Author.Rules.{rules}
+use mathlib.Core.Path.{◌≡◌, refl}
+use Prim.Native.Nat.{◌+◌, ◌*◌, ◌-◌, ◌≤◌}
+use lib.ListN.{length, length-set}
+use Rattle.record.specs.Bytes.{number_at, over}
+use Rattle.record.proofs.Over.{nothing}
+use Rattle.answer.specs.Content.{columns_from, raised_from, lowered_from, run}
+use Rattle.answer.proofs.Runs.{store_next}
+use native.Mathlib.Omega.{arith}
+use Rattle.answer.proofs.reader.fill.Goals as goal
+
+pub loop-j-init : goal.loop-j-init
+unfolding columns_from raised_from lowered_from run
+loop-j-init c = (search rules, refl, refl, refl, nothing 0 _, nothing 0 _, nothing 0 _)
+
+pub loop-j-preserved : goal.loop-j-preserved
+unfolding columns_from raised_from lowered_from
+loop-j-preserved c =
+    let l = c.loop-j in
+    let s = c.args in
+    let file = s.file.now in (
+      omega arith,
+      simp length-set l.invariant.1,
+      simp length-set l.invariant.2,
+      simp length-set l.invariant.3,
+      rw l.invariant.4 (store_next (λ j. number_at 2 file (s.first + 22 * j + 4)) l.j s.columns.now c.u16_at.ensures (omega arith)),
+      rw l.invariant.5 (store_next (λ j. number_at 8 file (s.first + 22 * j + 6)) l.j s.raised.now c.u64_at.ensures (omega arith)),
+      rw l.invariant.6 (store_next (λ j. number_at 8 file (s.first + 22 * j + 14)) l.j s.lowered.now c.u64_at-in-loop-j.ensures (omega arith)),
+    )
+
+pub returns : goal.returns
+returns c =
+    let l = c.loop-j in
+    let all : l.j ≡ c.args.flips = omega arith in
+    rw (← all) record { columns_after = l.invariant.4; raised_after = l.invariant.5; lowered_after = l.invariant.6 }

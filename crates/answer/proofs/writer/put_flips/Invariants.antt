@@ -1,0 +1,18 @@
+-- `answer::writer::put_flips` meets its contract. The invariant: the records written so far stand at the front.
+use borrow.Author.Rules.{rules}
+use mathlib.Core.Path.{◌≡◌}
+use Prim.Native.Nat.{◌≤◌, ◌*◌, ◌-◌}
+use lib.ListN.{length}
+use Rattle.record.specs.Bytes.{over}
+use Rattle.record.proofs.Over.{nothing, next}
+use Rattle.answer.specs.Content.{run, flips_record}
+use Rattle.answer.proofs.Runs.{run_more}
+use Rattle.answer.proofs.Pieces.{length_all_flips}
+use native.Mathlib.Omega.{arith}
+use Rattle.answer.proofs.writer.put_flips.Given as goal
+
+abbrev pub invariant-loop-j : goal.invariant-loop-j
+invariant-loop-j l = (l.j ≤ l.flips) × (l.at ≡ 22 * l.j) × (length l.out ≡ length l.initial.out) × (l.out ≡ over (run (flips_record l.columns l.raised l.lowered) l.j) 0 l.initial.out)
+
+abbrev pub decreases-loop-j : goal.decreases-loop-j
+decreases-loop-j l = l.flips - l.j

@@ -1,0 +1,11 @@
+-- `names::check` meets its contract. The invariant: the loop has reached its place after as many names as it counts.
+use Prim.Native.Nat.{◌-◌}
+use lib.ListN.{length}
+use Rattle.names.proofs.Checking.{Reached}
+use Rattle.names.proofs.check.Given as goal
+
+abbrev pub invariant-loop-passed : goal.invariant-loop-passed
+invariant-loop-passed l = Reached l.file l.cursor l.count
+
+abbrev pub decreases-loop-passed : goal.decreases-loop-passed
+decreases-loop-passed l = length l.file - l.cursor.at

@@ -1,0 +1,6 @@
+-- `newick::hints::short_word` meets its contract.
+use borrow.Author.Rules.{rules}
+use Rattle.newick.proofs.hints.short_word.Goals as goal
+
+pub returns : goal.returns
+returns c = rw c.u64_at.ensures

@@ -1,0 +1,20 @@
+-- `newick::list::put_list` meets its contract. The invariant: the records of the names so far stand at the front.
+use borrow.Author.Rules.{rules}
+use native.Mathlib.Omega.{arith}
+use mathlib.Core.Path.{◌≡◌}
+use Prim.Native.Nat.{◌+◌, ◌-◌, ◌≤◌}
+use lib.ListN.{length, length-take, length-drop}
+use Rattle.record.specs.Bytes.{over}
+use Rattle.record.proofs.Over.{nothing, next}
+use Rattle.names.specs.Names.{names_bytes, list_length}
+use Rattle.newick.specs.inner.Names.{names_in}
+use Rattle.newick.proofs.Lists.{list_flat, length_records, names_next, length_next, room}
+use Rattle.newick.proofs.list.put_list.Given as goal
+
+abbrev pub invariant-loop-i : goal.invariant-loop-i
+invariant-loop-i l =
+    (l.i ≤ l.n) × (l.at + 4 ≤ length l.initial.out) × (l.at + 4 ≡ list_length (names_in l.text l.starts l.sizes l.i)) × (length l.out ≡ length l.initial.out)
+    × (l.out ≡ over (names_bytes (names_in l.text l.starts l.sizes l.i)) 0 l.initial.out)
+
+abbrev pub decreases-loop-i : goal.decreases-loop-i
+decreases-loop-i l = l.n - l.i

@@ -1,0 +1,24 @@
+-- `newick::scan::after_letters` meets its contract. The invariant: all bytes so far are letters.
+use borrow.Author.Rules.{rules}
+use native.Mathlib.Omega.{arith}
+use Prim.Native.Nat.{◌-◌}
+use lib.ListN.{length}
+use Rattle.grammar.specs.Bytes.{is_letter}
+use Rattle.newick.specs.inner.Runs.{Sofar}
+use Rattle.newick.proofs.Runs.{none_yet, further, further_to_end, stops_here}
+use Rattle.newick.proofs.scan.after_letters.Goals as goal
+
+pub returns-then-more-lt4 : goal.returns-then-more-lt4
+returns-then-more-lt4 c =
+    let l = c.loop-at in
+    let four = c.letters_of_four-more.ensures in
+    stops_here (further l.invariant four.sofar) (four.stops (search rules))
+
+pub loop-at-preserved : goal.loop-at-preserved
+loop-at-preserved c = further c.loop-at.invariant c.letters_of_four-more.ensures.sofar
+
+pub returns : goal.returns
+returns c = further_to_end c.loop-at.invariant c.after_each_letter.ensures
+
+pub loop-at-init : goal.loop-at-init
+loop-at-init c = none_yet (search rules)

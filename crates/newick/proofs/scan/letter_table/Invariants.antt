@@ -1,0 +1,17 @@
+-- `newick::scan::letter_table` meets its contract. The invariant: the table tells each byte so far.
+use borrow.Author.Rules.{rules}
+use native.Mathlib.Omega.{arith}
+use mathlib.Core.Path.{◌≡◌, refl, ◌∙◌}
+use mathlib.Core.Bool.{false}
+use Prim.Native.Nat.{ℕ, ◌-◌, ◌≤◌, ◌<◌}
+use lib.ListN.{length, get_or, set, length-set}
+use lib.Seq.{get_or-set_same, get_or-set_other}
+use Rattle.grammar.specs.Bytes.{is_letter}
+use Rattle.newick.proofs.Names.{one_further}
+use Rattle.newick.proofs.scan.letter_table.Given as goal
+
+abbrev pub invariant-loop-b : goal.invariant-loop-b
+invariant-loop-b l = (l.b ≤ 256) × (length l.letters ≡ 256) × ((j : ℕ) → j < l.b → get_or l.letters j false ≡ is_letter j)
+
+abbrev pub decreases-loop-b : goal.decreases-loop-b
+decreases-loop-b l = 256 - l.b

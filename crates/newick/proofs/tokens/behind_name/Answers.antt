@@ -1,0 +1,6 @@
+-- `newick::tokens::behind_name` meets its contract.
+use borrow.Author.Rules.{rules}
+use Rattle.newick.proofs.tokens.behind_name.Goals as goal
+
+pub returns : goal.returns
+returns c = rw (c.union.ensures, c.single.ensures)

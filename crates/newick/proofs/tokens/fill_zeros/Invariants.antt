@@ -1,0 +1,17 @@
+-- `newick::tokens::fill_zeros` meets its contract. The invariant: the 0-sets so far are the tree's other names.
+use borrow.Author.Rules.{rules}
+use native.Mathlib.Omega.{arith}
+use mathlib.Core.Path.{◌≡◌}
+use mathlib.Core.List.{◌++◌, map}
+use Prim.Native.Nat.{◌-◌, ◌≤◌}
+use lib.ListN.{length, take, drop}
+use Rattle.taxa.specs.Sets.{◌∖◌}
+use Rattle.newick.proofs.Book.{zero_more, no_zeros}
+use Rattle.newick.proofs.tokens.fill_zeros.Given as goal
+
+abbrev pub invariant-loop-c : goal.invariant-loop-c
+invariant-loop-c l =
+    (l.first ≤ l.c) × (l.c ≤ l.end) × (length l.zeros ≡ 256) × (take l.c l.zeros ≡ take l.first l.initial.zeros ++ map (λ x. l.here ∖ x) (take (l.c - l.first) (drop l.first l.ones)))
+
+abbrev pub decreases-loop-c : goal.decreases-loop-c
+decreases-loop-c l = l.end - l.c

@@ -1,0 +1,11 @@
+-- `newick::tokens::take_comma` meets its contract.
+use borrow.Author.Rules.{rules}
+use native.Mathlib.Omega.{arith}
+use Rattle.newick.proofs.Book.{comma_outside, comma_taken}
+use Rattle.newick.proofs.tokens.take_comma.Goals as goal
+
+pub returns-then-from-eq0 : goal.returns-then-from-eq0
+returns-then-from-eq0 c = λ text k h e s. rw c.refused.ensures (comma_outside h e s c.if-from-eq0.true)
+
+pub returns : goal.returns
+returns c = λ text k h e s. rw c.on.ensures (comma_taken h e s _ (omega arith), omega (arith, s.after), omega (arith, s.after, s.inside))

@@ -1,0 +1,20 @@
+-- `newick::tokens::take_known` meets its contract.
+use borrow.Author.Rules.{rules}
+use mathlib.Core.Path.{sym, ◌∙◌}
+use Rattle.newick.proofs.Book.{name_18, name_known}
+use Rattle.newick.proofs.tokens.take_known.Goals as goal
+
+pub returns-then-subset : goal.returns-then-subset
+returns-then-subset c = λ text k h e n.
+    rw c.refused.ensures
+    (name_18 h e _ n.run n.some n.short _ n.numbered n.known
+    (rw (← c.single.ensures) (sym c.subset.ensures ∙ c.if-subset.true)))
+
+pub returns : goal.returns
+returns c = λ text k h e n.
+    rw (c.on.ensures, c.behind_name.ensures) (
+      name_known h e _ n.run n.some n.short _ n.numbered n.known
+          (rw (← c.single.ensures) (sym c.subset.ensures ∙ c.if-subset.false)),
+      n.some,
+      n.run.within,
+    )

@@ -1,0 +1,8 @@
+-- `score::lowers_at` meets its contract, by what it calls.
+use borrow.Author.Rules.{rules}
+use mathlib.Core.Path.{ap, ◌∙◌}
+use Rattle.taxa.specs.Sets.{mass}
+use Rattle.score.proofs.lowers_at.Goals as goal
+
+pub returns : goal.returns
+returns c = (c.mass_in.ensures.0 ∙ ap (mass 64 _) c.difference.ensures, c.mass_in.ensures.1)

@@ -1,0 +1,19 @@
+-- `score::nearest_leaf` meets its contract. The invariant: `best` counts among those passed.
+use borrow.Author.Rules.{rules}
+use native.Mathlib.Omega.{arith}
+use mathlib.Core.Path.{◌≡◌, refl}
+use Prim.Native.Nat.{◌-◌, ◌≤◌}
+use Rattle.taxa.specs.Sets.{multiplicity_in}
+use Rattle.score.proofs.Nearest.{one_more}
+use Rattle.score.specs.Score.{nearest_in, leaf}
+use Rattle.score.proofs.nearest_leaf.Goals as goal
+
+pub loop-i-init : goal.loop-i-init
+unfolding nearest_in
+loop-i-init c = (search rules, refl)
+
+pub loop-i-preserved : goal.loop-i-preserved
+loop-i-preserved c = (search rules, rw (one_more, ← c.loop-i.invariant.1, ← c.single.ensures) c.nearest_of-best.ensures)
+
+pub returns : goal.returns
+returns c = let all : c.loop-i.i ≡ c.args.n = omega arith in rw (← all) c.loop-i.invariant.1

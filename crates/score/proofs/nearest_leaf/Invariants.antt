@@ -1,0 +1,15 @@
+-- `score::nearest_leaf` meets its contract. The invariant: `best` counts among those passed.
+use borrow.Author.Rules.{rules}
+use native.Mathlib.Omega.{arith}
+use mathlib.Core.Path.{◌≡◌, refl}
+use Prim.Native.Nat.{◌-◌, ◌≤◌}
+use Rattle.taxa.specs.Sets.{multiplicity_in}
+use Rattle.score.proofs.Nearest.{one_more}
+use Rattle.score.specs.Score.{nearest_in, leaf}
+use Rattle.score.proofs.nearest_leaf.Given as goal
+
+abbrev pub invariant-loop-i : goal.invariant-loop-i
+invariant-loop-i l = (l.i ≤ l.n) × (l.best ≡ nearest_in (multiplicity_in l.planes) l.it leaf l.i (leaf 0))
+
+abbrev pub decreases-loop-i : goal.decreases-loop-i
+decreases-loop-i l = l.n - l.i

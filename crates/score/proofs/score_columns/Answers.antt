@@ -1,0 +1,35 @@
+-- `score::score_columns` meets its contract. The invariant: the sums are those of the columns passed, at most `column_most` each.
+use borrow.Author.Rules.{rules}
+use native.Mathlib.Omega.{arith}
+use mathlib.Core.Path.{◌≡◌, refl}
+use Prim.Native.Nat.{◌-◌, ◌*◌, ◌≤◌}
+use Rattle.taxa.specs.Sum.{sum}
+use Rattle.taxa.specs.Sets.{multiplicity_in}
+use Rattle.matrix.specs.Matrix.{column_in}
+use Rattle.score.specs.Score.{node_for, raises_of, lowers_of}
+use Rattle.score.specs.inner.Light.{column_most}
+use Rattle.score.proofs.Columns.{raises_next, lowers_next}
+use Rattle.score.proofs.score_columns.Goals as goal
+
+pub loop-c-init : goal.loop-c-init
+unfolding raises_of lowers_of sum
+loop-c-init c = (search rules, refl, refl, search rules, search rules)
+
+pub with_column-sum-requires : goal.with_column-sum-requires
+with_column-sum-requires c =
+    (omega arith, omega arith, rw c.column_in-it.ensures (c.requires.4 c.loop-c.c (omega arith)))
+
+pub loop-c-preserved : goal.loop-c-preserved
+loop-c-preserved c =
+    let node = c.node_for.ensures in
+    let it = c.column_in-it.ensures in
+    let l = c.loop-c in
+    let up = rw (node, it) at c.with_column-sum.ensures.0 in
+    let down = rw (node, it) at c.with_column-sum.ensures.1 in
+    (search rules, rw (raises_next, ← l.invariant.1) up.0, rw (lowers_next, ← l.invariant.2) down.0, omega arith, omega arith)
+
+pub returns : goal.returns
+returns c =
+    let l = c.loop-c in
+    let all : l.c ≡ c.args.m = omega arith in
+    rw (← all) ((l.invariant.1, l.invariant.3), (l.invariant.2, l.invariant.4))

@@ -1,0 +1,74 @@
+-- `search::cheapest` meets its contract. The invariant: the taxa below u have been tried.
+use borrow.Author.Rules.{rules}
+use native.Mathlib.Omega.{arith}
+use mathlib.Core.Path.{◌≡◌, sym, ◌∙◌}
+use Prim.Native.Nat.{ℕ, ◌<◌, ◌≤◌, ◌-◌}
+use Rattle.taxa.specs.Sets.{count, sizes, low}
+use Rattle.taxa.proofs.Counts.{count_pos, count_width}
+use Rattle.taxa.proofs.Members.{below, low_in, low_≤, low_width}
+use Rattle.search.specs.Workspace.{Kept}
+use Rattle.search.specs.Search.{nth, Spare}
+use Rattle.search.specs.inner.Trying.{Trying}
+use Rattle.search.proofs.Workspace.{kept_none, kept_then}
+use Rattle.search.proofs.Bonds.{weighs_small}
+use Rattle.search.proofs.Trying.{trying_start, trying_end}
+use Rattle.search.proofs.cheapest.Goals as goal
+
+some : (n : ℕ) {x : ℕ} → 1 < count n x → 0 < x
+some n h = count_pos n (omega (arith, h))
+
+pub bound_of-bound-requires : goal.bound_of-bound-requires
+bound_of-bound-requires c =
+    let p = c.requires in (
+      p.0.tabled,
+      omega (arith, p.3, count_width p.0.taxa p.2),
+      p.5.long,
+      p.6.long,
+      weighs_small p.0.columns (λ k b. omega (arith, c.type_inv.weights k)) p.6,
+    )
+
+pub loop-u-init : goal.loop-u-init
+loop-u-init c =
+    let a = c.args in
+    let p = c.requires in
+    let some = some a.n p.3 in
+    -- The lowest of 64 taxa is that of n.
+    let is_low : c.lowest-s.result ≡ low a.n a.group = c.lowest-s.ensures.0 ∙ sym (low_width p.0.taxa some p.2) in
+    rw is_low (
+      omega arith,
+      omega (arith, below a.n p.2 (low_in a.n some p.2)),
+      trying_start c.bound_of-bound.result (λ i h. low_≤ a.n p.2 (record { is = h })),
+      kept_none (sizes a.m (nth a.joined.now)) a.ws.now,
+      p.4,
+    )
+
+pub attempt-best-requires : goal.attempt-best-requires
+attempt-best-requires c =
+    let p = c.requires in
+    let v = c.loop-u.invariant in
+    (p.0, omega (arith, p.1, v.3.long), p.2, v.0, omega arith, v.4, p.5)
+
+pub loop-u-preserved : goal.loop-u-preserved
+loop-u-preserved c =
+    let v = c.loop-u.invariant in
+    let a = c.attempt-best.ensures in
+    (omega (arith, v.0), omega arith, a.0 c.bound_of-bound.result v.2, kept_then v.3 a.1, a.2)
+
+pub returns : goal.returns
+returns c =
+    let v = c.loop-u in
+    let p = c.requires in
+    let e : v.u ≡ c.args.n = omega arith in
+    (trying_end p.0.taxa p.2 (rw e at v.invariant.2) p.6 c.bound_of-bound.ensures, v.invariant.3, v.invariant.4)
+
+pub lowest-s-requires : goal.lowest-s-requires
+lowest-s-requires c = some c.args.n c.requires.3
+
+pub overflow_step-u : goal.overflow_step-u
+overflow_step-u c = omega (arith, c.lowest-s.ensures.1)
+
+pub overflow_step-u-in-loop-u : goal.overflow_step-u-in-loop-u
+overflow_step-u-in-loop-u c = omega (arith, c.requires.0.taxa, c.loop-u-test.true)
+
+pub shape_of-ws : goal.shape_of-ws
+shape_of-ws c = c.loop-u.invariant.3.long

@@ -1,0 +1,32 @@
+-- `net::flow` meets its contract: it reads the number at the pair's place.
+use mathlib.Core.Bool.{true}
+use mathlib.Core.Path.{◌≡◌, sym, ap, ◌∙◌}
+use mathlib.Core.List.{List}
+use Prim.Native.Nat.{ℕ, ◌+◌}
+use lib.IntN.{ℤ, pos}
+use lib.ListN.{get_or}
+use mir.Facts.{to_z-of_z}
+use native.Mathlib.Omega.{arith}
+use borrow.Author.Rules.{rules, sfits_of}
+use Rattle.taxa.specs.Sets.{has, count}
+use Rattle.search.specs.Signed.{out_of, inn_of}
+use Rattle.search.specs.inner.Places.{IsColumn}
+use Rattle.search.specs.Workspace.{net_flow, outs, inns}
+use Rattle.search.proofs.Workspace.{net_joined, column_place}
+use Rattle.search.proofs.net.flow.Goals as goal
+
+-- What stands at the place is the pair's net flow.
+is_flow : (ws : List ℤ) (i : ℕ) {joined offset at : ℕ} → at ≡ offset + count i joined → (row : ℕ → ℕ) (e : ℕ) → IsColumn row e joined offset → has (row e) i ≡ true → get_or ws at (pos 0) ≡ net_flow ws row e i
+is_flow ws i q row e k h =
+    ap (λ (p : ℕ). get_or ws p (pos 0)) (q ∙ column_place i k) ∙ sym (net_joined ws row e i h)
+
+pub returns : goal.returns
+unfolding outs inns
+returns c = λ row e k h.
+    (
+      rw (to_z-of_z (sfits_of c.f-1.given)) at c.out_of.ensures ∙ ap out_of (is_flow c.args.ws.now c.args.i c.slot.ensures row e k h),
+      rw (to_z-of_z (sfits_of c.f-1.given)) at c.inn_of.ensures ∙ ap inn_of (is_flow c.args.ws.now c.args.i c.slot.ensures row e k h),
+    )
+
+pub bounds-ws-slot : goal.bounds-ws-slot
+bounds-ws-slot c = omega (arith, c.slot.ensures, c.requires.place)

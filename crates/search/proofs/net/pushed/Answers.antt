@@ -1,0 +1,25 @@
+-- `net::pushed` meets its contract: the sum fits, and its two numbers are those of the summands.
+use borrow.Author.Rules.{rules}
+use native.Mathlib.Omega.{arith}
+use mathlib.Core.Path.{◌≡◌, refl}
+use lib.IntN.{pos, ◌+ℤ◌}
+use mir.Syntax.{w32}
+use mir.Val.{SFits, to_z}
+use mir.Facts.{to_z-of_z, to_z_pos}
+use Rattle.search.proofs.Signed.{add, fits, held}
+use Rattle.search.proofs.net.pushed.Goals as goal
+
+d_is : (c : goal.Start) → to_z w32 c.args.d ≡ pos c.args.d
+d_is c = to_z_pos w32 (omega arith)
+
+sum_fits : (c : goal.Start) → SFits w32 (c.args.f +ℤ pos c.args.d)
+sum_fits c =
+    let s = add c.args.f (pos c.args.d) in
+    let h = held c.ranges.f in
+    fits w32 (c.args.f +ℤ pos c.args.d) (omega arith) (omega arith)
+
+pub overflow_add-result : goal.overflow_add-result
+overflow_add-result c = rw (to_z-of_z c.ranges.f, d_is c) (sum_fits c)
+
+pub returns : goal.returns
+returns c = rw (to_z-of_z c.ranges.f, d_is c, to_z-of_z (sum_fits c)) (refl, (let s = add c.args.f (pos c.args.d) in omega arith))

@@ -1,0 +1,7 @@
+-- `net::slot` meets its contract: the column's offset, and the taxon's rank in what the column joins.
+use borrow.Author.Rules.{rules}
+use native.Mathlib.Omega.{arith}
+use Rattle.search.proofs.net.slot.Goals as goal
+
+pub returns : goal.returns
+returns c = omega (arith, c.rank.ensures)

@@ -1,0 +1,25 @@
+-- `push::direct_hops` meets its contract. The invariant: a flow of the size stands in the workspace.
+use borrow.Author.Rules.{rules}
+use native.Mathlib.Omega.{arith}
+use Prim.Native.Nat.{◌-◌}
+use Rattle.taxa.specs.Sets.{sizes}
+use Rattle.search.specs.Search.{nth}
+use Rattle.search.specs.Workspace.{Kept}
+use Rattle.search.specs.inner.Flows.{Flowing}
+use Rattle.search.proofs.Workspace.{kept_none, kept_then}
+use Rattle.search.proofs.push.direct_hops.Goals as goal
+
+pub loop-c-init : goal.loop-c-init
+loop-c-init c = let a = c.args in (c.requires, kept_none (sizes a.m (nth a.joined.now)) a.ws.now)
+
+pub direct_hop-size-requires : goal.direct_hop-size-requires
+direct_hop-size-requires c = (c.loop-c.invariant.0, omega arith)
+
+pub loop-c-preserved : goal.loop-c-preserved
+loop-c-preserved c = let h = c.direct_hop-size.ensures in (h.0, kept_then c.loop-c.invariant.1 h.1)
+
+pub shape_of-ws : goal.shape_of-ws
+shape_of-ws c = c.loop-c.invariant.1.long
+
+pub returns : goal.returns
+returns c = c.loop-c.invariant

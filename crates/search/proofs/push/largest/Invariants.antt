@@ -1,0 +1,22 @@
+-- `push::largest` meets its contract. The invariant: a flow stands in the workspace, and the taxa reached are all, if t is none of them.
+use borrow.Author.Rules.{rules}
+use native.Mathlib.Omega.{arith}
+use mathlib.Core.Bool.{true, true≢false}
+use mathlib.Core.Path.{◌≡◌, sym, ap, ◌∙◌}
+use Prim.Native.Nat.{ℕ}
+use lib.ListN.{length}
+use Rattle.taxa.specs.Sets.{has, sizes}
+use Rattle.taxa.proofs.Members.{in_pow}
+use Rattle.search.specs.Workspace.{Kept}
+use Rattle.search.specs.Search.{nth}
+use Rattle.search.specs.inner.Flows.{Stage}
+use Rattle.search.proofs.Workspace.{kept_none, kept_then, cleared_kept}
+use Rattle.search.proofs.Flows.{no_flow, size_small, rest_of, falls}
+use Rattle.search.proofs.push.largest.Given as goal
+
+abbrev pub invariant-loop-ws : goal.invariant-loop-ws
+invariant-loop-ws l =
+    Stage l.weights l.planes l.joined l.limits l.offsets l.n l.m l.ws l.used l.sources l.t l.cut.size l.cut.side × Kept (sizes l.m (nth l.joined)) l.initial.ws l.ws × (length l.tree ≡ 256)
+
+abbrev pub decreases-loop-ws : goal.decreases-loop-ws
+decreases-loop-ws l = rest_of l.cut.size (has l.cut.side l.t)

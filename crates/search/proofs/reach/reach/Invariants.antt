@@ -1,0 +1,14 @@
+-- `reach::reach` meets its contract. The invariant: `next` is what a whole sweep made of the tree of `met`. Each of those but the last meets somebody new.
+-- The first sweep, from any column, only has to leave a tree: before the loop `met` is empty, and nothing hops from nobody.
+use native.Mathlib.Omega.{arith}
+use Prim.Native.Nat.{◌-◌}
+use Rattle.taxa.specs.Sets.{all}
+use Rattle.search.specs.inner.Reaching.{Swept}
+use Rattle.search.proofs.Reaching.{root_alone, rooted_low, swept_none, swept_all}
+use Rattle.search.proofs.reach.reach.Given as goal
+
+abbrev pub invariant-loop-met : goal.invariant-loop-met
+invariant-loop-met l = Swept l.weights l.planes l.joined l.limits l.n l.m l.ws l.sources l.met l.next l.tree l.goal 0
+
+abbrev pub decreases-loop-met : goal.decreases-loop-met
+decreases-loop-met l = all l.n - l.met

@@ -1,0 +1,12 @@
+-- `reach::sweep` meets its contract. The invariant: the hops of the taxa met before, through the columns passed, lead into the tree.
+use borrow.Author.Rules.{rules}
+use native.Mathlib.Omega.{arith}
+use Prim.Native.Nat.{◌-◌}
+use Rattle.search.proofs.Reaching.{Over, over_none, over_one}
+use Rattle.search.proofs.reach.sweep.Given as goal
+
+abbrev pub invariant-loop-c : goal.invariant-loop-c
+invariant-loop-c l = Over l.weights l.planes l.joined l.limits l.n l.m l.ws l.sources l.met l.all l.tree l.first l.c
+
+abbrev pub decreases-loop-c : goal.decreases-loop-c
+decreases-loop-c l = l.m - l.c

@@ -1,0 +1,8 @@
+-- `taxa::common` meets its contract: the operation on digits is the definition.
+use mathlib.Core.Path.{refl}
+use Rattle.taxa.specs.Sets.{◌∩◌}
+use Rattle.taxa.proofs.common.Goals as goal
+
+pub returns : goal.returns
+unfolding ◌∩◌
+returns c = refl

@@ -1,0 +1,26 @@
+-- `tree::order::list_flips` meets its contract. The invariant: what stands are the flips of the columns passed, and the columns ahead are as they were.
+use borrow.Author.Rules.{rules}
+use native.Mathlib.Omega.{arith}
+use mathlib.Core.Path.{◌≡◌, refl, sym, ap, ◌∙◌}
+use Prim.Native.Nat.{◌-◌, ◌≤◌}
+use lib.ListN.{length}
+use Rattle.taxa.specs.Sets.{◌∩◌}
+use Rattle.method.specs.Split.{Column}
+use Rattle.method.specs.Tree.{column, flip_list}
+use Rattle.split.specs.Columns.{column_of, matrix_in}
+use Rattle.split.proofs.Loading.{file_column}
+use Rattle.tree.specs.Lists.{first_flips}
+use Rattle.tree.specs.inner.Lists.{SameFrom, unweighed}
+use Rattle.tree.proofs.Lists.{list_next, list_size, list_few, same_all, same_on}
+use Rattle.tree.proofs.order.list_flips.Given as goal
+
+abbrev pub invariant-loop-c : goal.invariant-loop-c
+invariant-loop-c l =
+    (l.c ≤ l.m) × (l.end ≡ length (flip_list l.c (column (matrix_in l.file).columns) (unweighed l.initial.ones l.initial.zeros)))
+    × (length l.columns ≡ length l.initial.columns) × (length l.ones ≡ length l.initial.ones) × (length l.zeros ≡ length l.initial.zeros)
+    × (first_flips l.columns l.ones l.zeros l.end ≡ flip_list l.c (column (matrix_in l.file).columns) (unweighed l.initial.ones l.initial.zeros))
+    × SameFrom l.c l.initial.ones l.ones × SameFrom l.c l.initial.zeros l.zeros
+
+abbrev pub decreases-loop-c : goal.decreases-loop-c
+decreases-loop-c l = l.m - l.c
+-- ---- the way back from each call
