@@ -19,7 +19,15 @@ abbrev pub decreases-walk : goal.decreases-walk
 decreases-walk l = 2 * l.bound
 
 abbrev pub invariant-walk-loop-i : goal.invariant-walk-loop-i
-invariant-walk-loop-i l = ?
+invariant-walk-loop-i l =
+    (l.i ≤ l.k) × Parallel l.weights (entries_for l.weights l.ones) (entries_for l.weights l.zeros) × (l.ws ≡ l.initial.ws) × (length l.list ≡ length l.initial.list)
+    × (take l.k l.list ≡ take l.k l.initial.list) × LentLists l.ones l.zeros l.walked l.paid
+    × Going (build 64 (multiplicity_in l.planes) (length l.weights)) (take l.k l.initial.list)
+    (cols_of l.weights (entries_for l.weights l.initial.ones) (entries_for l.weights l.initial.zeros))
+    (cols_of l.weights (entries_for l.weights l.ones) (entries_for l.weights l.zeros)) (first_groups l.initial.walked l.initial.paid l.at) (first_groups l.walked l.paid l.end)
+    l.at l.end l.i
+    × Lent l.joined l.limits l.offsets l.used l.tree
+    × TurnsClear l.weights l.planes (entries_for l.weights l.ones) (entries_for l.weights l.zeros) (drop l.i (take l.k l.initial.list)) l.initial.ws
 
 abbrev pub decreases-walk-loop-i : goal.decreases-walk-loop-i
 decreases-walk-loop-i l = l.k - l.i
