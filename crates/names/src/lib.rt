@@ -2,6 +2,7 @@
 // Promises: every byte string is taken with the number of its names or refused with document 02's number and place; file and names
 // determine each other. Rests on record and grammar.
 #![tactic(auto)]
+
 ghost use Rattle.std.specs.Prelude.{◌≡◌, ◌<◌, length};
 ghost use Rattle.record.specs.Bytes.{equal};
 ghost use Rattle.grammar.specs.Limits.{is_in};

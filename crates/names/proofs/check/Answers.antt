@@ -1,67 +1,44 @@
 -- `names::check` meets its contract. The invariant: the loop has reached its place after as many names as it counts.
-use borrow.Author.Rules.{rules}
 use mathlib.Core.Path.{◌≡◌, sym, ap, ◌∙◌}
-use mathlib.Core.Bool.{true, false}
 use mathlib.Core.List.{List}
 use native.Mathlib.Omega.{arith}
-use Prim.Native.Nat.{ℕ, ◌-◌}
-use lib.ListN.{length}
-use Rattle.record.specs.Records as records
-use Rattle.record.specs.Records.{finds}
-use Rattle.record.specs.declared.Passed.TheVariants.{At}
+use Prim.Native.Nat.{ℕ}
 use Rattle.names.specs.declared.Listed.{Listed}
-use Rattle.names.specs.inner.Places.{names_from}
-use Rattle.names.specs.Check.{name_passed, checked, returned, Checks}
+use Rattle.names.specs.Check.{checked, returned, Checks}
 use Rattle.names.proofs.Walking.{place_grows}
 use Rattle.names.proofs.Passing.{passing}
-use Rattle.names.proofs.Checking.{Reached, begun, gone_on, name_stops, end_stops, all_passed}
+use Rattle.names.proofs.Checking.{begun, gone_on, name_stops, end_stops, all_passed}
 use Rattle.names.proofs.check.Goals as goal
 
 -- The case and its numbers.
 checks : (file : List ℕ) {r : Listed} → r ≡ checked file → Checks file r
 checks file e = record { answers = e; numbers = ap returned e }
 
--- A name starts at the cursor.
-found : (c : goal.In-loop-passed) →
-    finds c.args.file.now c.loop-passed.cursor.at records.name ≡ true
-found c = sym c.finds.ensures ∙ c.loop-passed-test.true
-
--- The name there was passed.
-passed : (c : goal.In-At) →
-    let file = c.args.file.now in
-    At c.in-At.next ≡ name_passed file (names_from file c.loop-passed.count 0) c.loop-passed.cursor
-passed c = sym c.in-At.is ∙ c.pass_name-passed.ensures
-
--- None starts there.
-other : (c : goal.After-loop-passed) →
-    finds c.args.file.now c.loop-passed.cursor.at records.name ≡ false
-other c = sym c.finds.ensures ∙ c.loop-passed-test.false
-
 pub returns-in_default : goal.returns-in_default
 returns-in_default c =
     let told = c.in_default.is in
-    let stops = name_stops c.loop-passed.invariant (found c.before.before.before.before) (sym told ∙ c.pass_name-passed.ensures) in
+    let stops = name_stops c.loop-passed.invariant (sym c.finds.ensures ∙ c.loop-passed-test.true) (sym told ∙ c.pass_name-passed.ensures) in
     checks _ (rw (c.refusal.ensures, told) stops)
 
 pub overflow_add-count : goal.overflow_add-count
-overflow_add-count c =
-    omega (arith, c.loop-passed.invariant, place_grows c.args.file.now c.loop-passed.count 0)
+overflow_add-count c = omega (arith, c.loop-passed.invariant, place_grows c.args.file.now c.loop-passed.count 0)
 
 pub loop-passed-smaller : goal.loop-passed-smaller
-loop-passed-smaller c = omega (arith, (passing _ _ _ (passed c)).stands)
+loop-passed-smaller c = omega (arith, (passing _ _ _ (sym c.in-At.is ∙ c.pass_name-passed.ensures)).stands)
 
 pub loop-passed-preserved : goal.loop-passed-preserved
-loop-passed-preserved c = gone_on c.loop-passed.invariant (found c.before.before.before.before) (passed c)
+loop-passed-preserved c =
+    gone_on c.loop-passed.invariant (sym c.finds.ensures ∙ c.loop-passed-test.true) (sym c.in-At.is ∙ c.pass_name-passed.ensures)
 
 pub returns-in_default-last : goal.returns-in_default-last
 returns-in_default-last c =
     let told = c.in_default-last.is in
-    let stops = end_stops c.loop-passed.invariant (other c.before.before.before.before) (sym told ∙ c.pass_end-last.ensures) in
+    let stops = end_stops c.loop-passed.invariant (sym c.finds.ensures ∙ c.loop-passed-test.false) (sym told ∙ c.pass_end-last.ensures) in
     checks _ (rw (c.refusal-in_default-last.ensures, told) stops)
 
 pub returns : goal.returns
 returns c =
-    checks _ (all_passed c.loop-passed.invariant (other c.before.before.before) (sym c.in-At-last.is ∙ c.pass_end-last.ensures))
+    checks _ (all_passed c.loop-passed.invariant (sym c.finds.ensures ∙ c.loop-passed-test.false) (sym c.in-At-last.is ∙ c.pass_end-last.ensures))
 
 pub loop-passed-init : goal.loop-passed-init
 loop-passed-init c = begun _ _ c.start-cursor.ensures

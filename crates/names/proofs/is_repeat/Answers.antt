@@ -1,11 +1,9 @@
 -- `names::is_repeat` meets its contract. The invariant: the names that are left to meet come to what all come to, and lead to the place.
 use borrow.Author.Rules.{rules}
-use mathlib.Core.Path.{◌≡◌, sym, ◌∙◌}
+use mathlib.Core.Path.{sym, ◌∙◌}
 use native.Mathlib.Omega.{arith}
 use Prim.Native.Nat.{◌-◌}
-use Rattle.grammar.specs.Limits.{is_in}
-use Rattle.names.specs.Names.{name_at}
-use Rattle.names.specs.inner.Places.{after, names_from, place_from, Whole}
+use Rattle.names.specs.inner.Places.{after, Whole}
 use Rattle.names.proofs.Walking.{in_first, in_others, in_none, place_one, place_grows}
 use Rattle.names.proofs.is_repeat.Goals as goal
 
@@ -37,4 +35,7 @@ pub same_name-requires : goal.same_name-requires
 same_name-requires c = (search rules, record-left c)
 
 pub after-at-requires : goal.after-at-requires
-after-at-requires c = record-left c.before.before
+after-at-requires c =
+    let file = c.args.file.now in
+    let at = c.loop-left in
+    omega (arith, at.invariant.0, place_one file at.left at.at c.loop-left-test.true, place_grows file (at.left - 1) (after file at.at))

@@ -1,12 +1,8 @@
 -- `names::is_spelt` meets its contract. The invariant: what is left to test comes to what all comes to.
-use borrow.Author.Rules.{rules}
-use borrow.Author.Tests.{not-true, not-false}
-use mathlib.Core.Path.{◌≡◌, sym, ◌∙◌}
-use native.Mathlib.Omega.{arith}
+use mathlib.Core.Path.{◌≡◌}
 use Prim.Native.Nat.{◌-◌, ◌≤◌}
 use lib.ListN.{length, drop}
 use Rattle.names.specs.Check.{spelt}
-use Rattle.names.proofs.Spelling.{spelt_next, spelt_end}
 use Rattle.names.proofs.is_spelt.Given as goal
 
 abbrev pub invariant-loop-i : goal.invariant-loop-i

@@ -1,5 +1,4 @@
 -- `names::pass_end` meets its contract: a refused step goes straight out, and else nothing may follow.
-use borrow.Author.Rules.{rules}
 use mathlib.Core.Path.{◌≡◌}
 use Rattle.record.specs.Records as records
 use Rattle.record.specs.Records.{step, record_of}
@@ -11,7 +10,7 @@ unfolding end_passed
 returns-in_default c =
     let found : (let args = c.args in
     c.read-step.result ≡ step args.file.now args.here.at (record_of records.names_end)) =
-        rw (← c.of.ensures) c.read-step.ensures in
+    rw (← c.of.ensures) c.read-step.ensures in
     rw (c.refusal.ensures, ← found, c.in_default.is)
 
 pub returns : goal.returns
@@ -19,5 +18,5 @@ unfolding end_passed
 returns c =
     let found : (let args = c.args in
     c.read-step.result ≡ step args.file.now args.here.at (record_of records.names_end)) =
-        rw (← c.of.ensures) c.read-step.ensures in
-    rw (c.nothing_after.ensures, ← found c.before.before.before.before, c.in-Payload.is)
+    rw (← c.of.ensures) c.read-step.ensures in
+    rw (c.nothing_after.ensures, ← found, c.in-Payload.is)

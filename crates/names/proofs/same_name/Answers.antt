@@ -1,5 +1,4 @@
 -- `names::same_name` meets its contract: what is lent of the file are the two names.
-use borrow.Author.Rules.{rules}
 use Rattle.names.proofs.Walking.{name_part}
 use Rattle.names.proofs.same_name.Goals as goal
 
