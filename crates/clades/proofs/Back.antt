@@ -10,7 +10,7 @@ use Rattle.taxa.proofs.Members.{none, ⊆-refl, all_fits}
 use Rattle.taxa.proofs.Counts.{count_le}
 use Rattle.grammar.specs.Trees.{Tree, one}
 use Rattle.grammar.specs.Text.{Name}
-use Rattle.grammar.specs.Columns.{Bytes, names, all_names, columns, all_columns}
+use Rattle.grammar.specs.Columns.{Bytes, names, all_names, all_columns}
 use Rattle.grammar.specs.Limits.{taxa, depth, Within}
 use Rattle.grammar.specs.Limits as limits
 use Rattle.grammar.specs.Verdict.{accepted}

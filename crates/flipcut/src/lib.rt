@@ -3,6 +3,7 @@
 // the number gives that answer back. Rests on record, matrix, answer, entries, split, tree, score, names, newick and
 // spelling.
 #![tactic(auto)]
+
 pub mod answers;
 pub mod matrices;
 mod pack;

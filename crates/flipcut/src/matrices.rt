@@ -7,41 +7,31 @@ ghost use Rattle.flipcut.specs.Packed.{packed, packed_score, BuildsPacked, Gives
 use super::pack;
 use super::pack::SPLIT_RESULTS;
 
-#[unsafe(no_mangle)]
-pub extern "C" fn flipcut_check(file: &[u8]) -> u64
+pub fn flipcut_check(file: &[u8]) -> u64
     ensures { result ≡ packed (checked file.now) }
 {
     pack::check(matrix::check(file))
 }
 
-#[unsafe(no_mangle)]
-pub extern "C" fn flipcut_build(matrix: &[u8], workspace: &mut [i32], out: &mut [u8]) -> u64
+pub fn flipcut_build(matrix: &[u8], workspace: &mut [i32], out: &mut [u8]) -> u64
     ensures { BuildsPacked matrix.now workspace.old out.old result workspace.new out.new }
 {
     pack::build(tree::build(matrix, workspace, out))
 }
 
-#[unsafe(no_mangle)]
-pub extern "C" fn flipcut_tree(matrix: &[u8], workspace: &mut [i32], out: &mut [u8]) -> u64
+pub fn flipcut_tree(matrix: &[u8], workspace: &mut [i32], out: &mut [u8]) -> u64
     ensures { GivesTreePacked matrix.now workspace.old out.old result workspace.new out.new }
 {
     pack::build(tree::tree(matrix, workspace, out))
 }
 
-#[unsafe(no_mangle)]
-pub extern "C" fn flipcut_flips(
-    matrix: &[u8],
-    tree: &[u8],
-    workspace: &mut [i32],
-    out: &mut [u8],
-) -> u64
+pub fn flipcut_flips(matrix: &[u8], tree: &[u8], workspace: &mut [i32], out: &mut [u8]) -> u64
     ensures { GivesFlipsPacked matrix.now tree.now workspace.old out.old result workspace.new out.new }
 {
     pack::build(tree::flips(matrix, tree, workspace, out))
 }
 
-#[unsafe(no_mangle)]
-pub extern "C" fn flipcut_split(
+pub fn flipcut_split(
     matrix: &[u8],
     group: u64,
     workspace: &mut [i32],
@@ -52,8 +42,7 @@ pub extern "C" fn flipcut_split(
     pack::split(split::split(matrix, group, workspace), res)
 }
 
-#[unsafe(no_mangle)]
-pub extern "C" fn flipcut_score(matrix: &[u8], answer: &[u8]) -> u64
+pub fn flipcut_score(matrix: &[u8], answer: &[u8]) -> u64
     ensures { result ≡ packed_score (scored matrix.now answer.now) }
 {
     pack::score(score::score(matrix, answer))

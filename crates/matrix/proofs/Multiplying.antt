@@ -1,7 +1,7 @@
 -- Multiplicities: the rows of the check's table for them (`some_none` .. `multiplicities_taken`), what those that passed say (`judged_multiplicities`), and
 -- what the method asks of legal ones (`legal_positive`, `legal_merged`, `legal_fit`).
 use mathlib.Core.Path.{◌≡◌, refl, sym, ap, ◌∙◌}
-use mathlib.Core.Bool.{Bool, true, false, not, ◌&&◌, cond, and-eq-true_iff, true≢false}
+use mathlib.Core.Bool.{Bool, true, false, not, cond, and-eq-true_iff, true≢false}
 use mathlib.Core.List.{List, [], ◌∷◌}
 use mathlib.Core.Logic.{◌≢◌}
 use Prim.Native.Nat.{ℕ, zero, suc, ◌+◌, ◌≤◌, ◌<◌}

@@ -2,6 +2,7 @@
 // Promises: every byte string is taken with its n and m or refused with document 01's number and place; file and content
 // determine each other. Rests on taxa and record.
 #![tactic(auto)]
+
 pub mod writer;
 
 ghost use Rattle.std.specs.Prelude.{◌≡◌, ◌+◌, ◌*◌, ◌<◌, ◌≤◌, length};

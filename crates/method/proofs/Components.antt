@@ -1,5 +1,5 @@
 -- The parts that a split hands on are what document 01 says of them (`split_components`).
-use mathlib.Core.Logic.{◌⊎◌, ⊎_elim}
+use mathlib.Core.Logic.{⊎_elim}
 use mathlib.Core.List.{List}
 use Prim.Native.Nat.{ℕ, ◌^◌, ◌<◌}
 use Rattle.taxa.specs.Sets.{◌∈◌, Disjoint, Positive, count}

@@ -15,7 +15,7 @@ use Rattle.taxa.proofs.Members.{none, below, low_≤, in_all, all_<, all_fits, �
 use Rattle.taxa.proofs.Masses.{mass_⊆, mass_all}
 use Rattle.taxa.proofs.Counts.{count_all}
 use Rattle.method.specs.Split.{Column, Same, Rule, side, parted, division_cost, split_cost, after, FlipsAt, split_parts}
-use Rattle.method.specs.Tree.{Group, Walk, walked, node, build, ordered, Line, InFileOrder, Flips, total, Matrix, column, answer, Sound, ComesTo, Components, made, weighed_flips, Clade, Filled, group, single, RootedTree, Fits}
+use Rattle.method.specs.Tree.{Group, Walk, walked, node, build, ordered, Line, InFileOrder, Flips, total, Matrix, column, answer, Sound, ComesTo, Components, made, weighed_flips, Clade, Filled, RootedTree, Fits}
 use Rattle.method.specs.Choices.{turned_by, choice_weight, LetsFill}
 use Rattle.method.specs.Flow.{Flow, arcs, limits, FlowSearch, SplitPromise}
 use Rattle.method.proofs.Flips.{Proper}

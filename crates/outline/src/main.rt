@@ -1,11 +1,12 @@
 // Reads a matrix file on standard input and prints its answer, or one line `refused N at P`, as document 01 says.
 // Promises nothing of its own: the work is `tree::build`, and what is printed is compared with stored and independent output.
-// Rests on tree and record; reading and printing are the toolchain's io.
+// Rests on tree, record and input; printing is std's. Where reading or printing fails, that is told on standard error and the status is 1.
 #![tactic(auto)]
+
 ghost use Rattle.std.specs.Prelude.{◌≡◌, ◌+◌, ◌*◌, ◌≤◌, length};
 
-use libc::{STDIN_FILENO, STDOUT_FILENO};
 use record::number::{u16_at, u32_at, u64_at};
+use std::io;
 use tree::Built;
 
 // Room for the largest matrix file and one byte more: what lies past that changes nothing.
@@ -29,86 +30,70 @@ fn workspace_room() -> [i32; 16384]
     [0; 16384]
 }
 
-fn say(text: &[u8]) {
-    io::write_all(STDOUT_FILENO, text);
-}
-
-fn say_number(text: &[u8], number: u64) {
-    say(text);
-    io::print_decimal(STDOUT_FILENO, number);
-}
-
-fn say_set(text: &[u8], set: u64) {
-    say(text);
-    io::print_hex(STDOUT_FILENO, set, 1);
-}
-
-fn say_group(answer: &[u8], at: usize)
+fn say_group(rt: &impl Print, answer: &[u8], at: usize) -> io::Result<()>
     requires { at + 16 ≤ length answer.now }
 {
-    say_set(b"group ", u64_at(answer, at + 4));
-    say_number(b" cost ", u32_at(answer, at + 12) as u64);
-    say(b"\n");
+    let set = u64_at(answer, at + 4);
+    let cost = u32_at(answer, at + 12);
+    println!(rt; "group {set:x} cost {cost}")
 }
 
-fn say_flips(answer: &[u8], at: usize)
+fn say_flips(rt: &impl Print, answer: &[u8], at: usize) -> io::Result<()>
     requires { at + 22 ≤ length answer.now }
 {
-    say_number(b"flip ", u16_at(answer, at + 4) as u64);
-    say_set(b" raise ", u64_at(answer, at + 6));
-    say_set(b" lower ", u64_at(answer, at + 14));
-    say(b"\n");
+    let column = u16_at(answer, at + 4);
+    let raised = u64_at(answer, at + 6);
+    let lowered = u64_at(answer, at + 14);
+    println!(rt; "flip {column} raise {raised:x} lower {lowered:x}")
 }
 
-fn say_groups(answer: &[u8], groups: usize)
+fn say_groups(rt: &impl Print, answer: &[u8], groups: usize) -> io::Result<()>
     requires { 16 + 16 * groups ≤ length answer.now }
 {
     for i in 0..groups {
-        say_group(answer, 16 + 16 * i);
+        say_group(rt, answer, 16 + 16 * i)?;
     }
+    Ok(())
 }
 
-fn say_all_flips(answer: &[u8], after: usize, flips: usize)
+fn say_all_flips(rt: &impl Print, answer: &[u8], after: usize, flips: usize) -> io::Result<()>
     requires { after + 22 * flips ≤ length answer.now }
 {
     for i in 0..flips {
-        say_flips(answer, after + 22 * i);
+        say_flips(rt, answer, after + 22 * i)?;
     }
+    Ok(())
 }
 
 // The answer file at the start of a lent output. The tests only tell the checker what every answer meets.
-fn say_answer(answer: &[u8]) {
+fn say_answer(rt: &impl Print, answer: &[u8]) -> io::Result<()> {
     if answer.len() < 6660 {
-        return;
+        return Ok(());
     }
-    say_number(b"taxa ", u16_at(answer, 4) as u64);
-    say_number(b" columns ", u16_at(answer, 6) as u64);
-    say_number(b" total ", u32_at(answer, 12) as u64);
-    say(b"\n");
+    let taxa = u16_at(answer, 4);
+    let columns = u16_at(answer, 6);
+    let total = u32_at(answer, 12);
+    println!(rt; "taxa {taxa} columns {columns} total {total}")?;
     let groups = u16_at(answer, 8) as usize;
     let flips = u16_at(answer, 10) as usize;
     if groups > 63 {
-        return;
+        return Ok(());
     }
     if flips > 256 {
-        return;
+        return Ok(());
     }
-    say_groups(answer, groups);
-    say_all_flips(answer, 16 + 16 * groups, flips);
+    say_groups(rt, answer, groups)?;
+    say_all_flips(rt, answer, 16 + 16 * groups, flips)
 }
 
-fn main() {
+fn main(rt: HostRuntime) -> io::Result<()> {
     let mut file = file_room();
-    let size = io::read_full(STDIN_FILENO, &mut file);
+    let size = input::read_full(&mut rt.stdin(), &mut file)?;
     let mut workspace = workspace_room();
     let mut answer = answer_room();
     let built = tree::build(&file[..size], &mut workspace, &mut answer);
     match built {
-        Built::Taken(_, _) => say_answer(&answer),
-        Built::Refused(why) => {
-            say_number(b"refused ", why.number as u64);
-            say_number(b" at ", why.place as u64);
-            say(b"\n");
-        }
+        Built::Taken(_, _) => say_answer(&rt, &answer),
+        Built::Refused(why) => println!(rt; "refused {} at {}", why.number, why.place),
     }
 }

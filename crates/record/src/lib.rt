@@ -2,6 +2,7 @@
 // Promises: reading a record and writing one are what specs/ says, for any bytes and any place.
 // Rests on nothing.
 #![tactic(auto)]
+
 pub mod number;
 pub mod writer;
 

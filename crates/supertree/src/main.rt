@@ -1,14 +1,15 @@
 // Reads source trees on standard input, as Newick text, and prints one tree of them all, as Newick on one line. A text that is refused gets one line on
 // standard error instead: `refused N at P`, why in words, and the line and the column of that place.
 // Promises nothing of its own: the work is `newick::read`, `tree::build` and `spelling::write`, and what is printed is compared with stored and independent
-// output. Rests on these three and on record; reading and printing are the toolchain's io.
+// output. Rests on these three, on record and on input; printing is std's. Where reading or printing fails, that is told on standard error and the status is 1.
 #![tactic(auto)]
+
 ghost use Rattle.std.specs.Prelude.{◌≡◌, ◌+◌, ◌≤◌, length};
 
-use libc::{STDERR_FILENO, STDIN_FILENO, STDOUT_FILENO};
 use newick::Derived;
 use record::Refusal;
 use spelling::Spelled;
+use std::io;
 use tree::Built;
 
 // The longest text that is taken: 1 MiB.
@@ -93,121 +94,115 @@ fn spot_behind(start: &[u8]) -> Spot
     spot
 }
 
-fn tell(text: &[u8]) {
-    io::write_all(STDERR_FILENO, text);
-}
-
-fn tell_number(text: &[u8], number: u64) {
-    tell(text);
-    io::print_decimal(STDERR_FILENO, number);
-}
-
-fn tell_refusal(why: Refusal) {
-    tell_number(b"refused ", why.number as u64);
-    tell_number(b" at ", why.place as u64);
+fn tell_refusal(rt: &impl Eprint, why: Refusal) -> io::Result<()> {
+    eprint!(rt; "refused {} at {}", why.number, why.place)
 }
 
 // A refusal of what the program itself made: none comes, since each room is for the most there can be.
-fn tell_fault(why: Refusal) {
-    tell_refusal(why);
-    tell(b"\n");
+fn tell_fault(rt: &impl Eprint, why: Refusal) -> io::Result<()> {
+    tell_refusal(rt, why)?;
+    rt.eprint("\n")
 }
 
 // 16 stands at a byte or at the text's end.
-fn tell_misfit(rest: &[u8]) {
+fn tell_misfit(rt: &impl Eprint, rest: &[u8]) -> io::Result<()> {
     if rest.len() == 0 {
-        tell(b"the text ends before a tree does");
+        rt.eprint("the text ends before a tree does")
     } else {
-        tell(b"this byte cannot stand here");
+        rt.eprint("this byte cannot stand here")
     }
 }
 
 // 19 stands at a bracket or at a name.
-fn tell_too_many(rest: &[u8]) {
+fn tell_too_many(rt: &impl Eprint, rest: &[u8]) -> io::Result<()> {
     if rest.len() > 0 {
         if rest[0] == OPENING_BRACKET {
-            tell(b"there are more than 256 groups");
-            return;
+            return rt.eprint("there are more than 256 groups");
         }
     }
-    tell(b"there are more than 64 names");
+    rt.eprint("there are more than 64 names")
 }
 
 // Why a text is refused at a place, from which on `rest` stands. What is left is 10, which never comes.
-fn tell_words(number: u8, rest: &[u8]) {
+fn tell_words(rt: &impl Eprint, number: u8, rest: &[u8]) -> io::Result<()> {
     match number {
-        16 => tell_misfit(rest),
-        17 => tell(b"a name is longer than 32 characters"),
-        18 => tell(b"a name stands twice in one tree"),
-        19 => tell_too_many(rest),
-        20 => tell(b"more than 64 brackets are open"),
-        _ => tell(b"there is no room"),
+        16 => tell_misfit(rt, rest),
+        17 => rt.eprint("a name is longer than 32 characters"),
+        18 => rt.eprint("a name stands twice in one tree"),
+        19 => tell_too_many(rt, rest),
+        20 => rt.eprint("more than 64 brackets are open"),
+        _ => rt.eprint("there is no room"),
     }
 }
 
 // The test only tells the checker what every place meets.
-fn tell_why(text: &[u8], why: Refusal)
+fn tell_why(rt: &impl Eprint, text: &[u8], why: Refusal) -> io::Result<()>
     requires { length text.now ≤ 1048576 }
 {
-    tell_refusal(why);
+    tell_refusal(rt, why)?;
     let place = why.place;
     if place <= text.len() {
-        tell(b": ");
-        tell_words(why.number, &text[place..]);
+        rt.eprint(": ")?;
+        tell_words(rt, why.number, &text[place..])?;
         let spot = spot_behind(&text[0..place]);
-        tell_number(b", line ", spot.line);
-        tell_number(b", column ", spot.column);
+        eprint!(rt; ", line {}, column {}", spot.line, spot.column)?;
     }
-    tell(b"\n");
+    rt.eprint("\n")
 }
 
-fn say_tree(tree: &[u8]) {
-    let said = io::write_all(STDOUT_FILENO, tree) & io::write_all(STDOUT_FILENO, b"\n");
-    if !said {
-        tell(b"the tree could not be written\n");
-    }
+fn say_line(rt: &impl Print, text: &[u8]) -> io::Result<()> {
+    rt.write_all(text)?;
+    rt.write_all(b"\n")
 }
 
-fn spell_tree(answer: &[u8], names: &[u8]) {
+fn say_tree(rt: &(impl Print + Eprint), tree: &[u8]) -> io::Result<()> {
+    let said = say_line(rt, tree);
+    if said.is_err() {
+        eprintln!(rt; "the tree could not be written")?;
+    }
+    said
+}
+
+fn spell_tree(rt: &(impl Print + Eprint), answer: &[u8], names: &[u8]) -> io::Result<()> {
     let mut tree = [0; TREE_ROOM];
     let spelled = spelling::write(answer, names, &mut tree);
     match spelled {
-        Spelled::Length(size) => say_tree(written(&tree, size)),
-        Spelled::Refused(why) => tell_fault(why),
+        Spelled::Length(size) => say_tree(rt, written(&tree, size)),
+        Spelled::Refused(why) => tell_fault(rt, why),
     }
 }
 
-fn build_tree(matrix: &[u8], names: &[u8]) {
+fn build_tree(rt: &(impl Print + Eprint), matrix: &[u8], names: &[u8]) -> io::Result<()> {
     let mut workspace = workspace_room();
     let mut answer = [0; ANSWER_ROOM];
     let built = tree::build(matrix, &mut workspace, &mut answer);
     match built {
-        Built::Taken(size, _) => spell_tree(written(&answer, size), names),
-        Built::Refused(why) => tell_fault(why),
+        Built::Taken(size, _) => spell_tree(rt, written(&answer, size), names),
+        Built::Refused(why) => tell_fault(rt, why),
     }
 }
 
-fn read_trees(text: &[u8])
+fn read_trees(rt: &(impl Print + Eprint), text: &[u8]) -> io::Result<()>
     requires { length text.now ≤ 1048576 }
 {
     let mut matrix = [0; MATRIX_ROOM];
     let mut names = [0; NAMES_ROOM];
     let outcome = newick::read(text, &mut matrix, &mut names);
     match outcome {
-        Derived::Taken(matrix_size, names_size) => {
-            build_tree(written(&matrix, matrix_size), written(&names, names_size));
-        }
-        Derived::Refused(why) => tell_why(text, why),
+        Derived::Taken(matrix_size, names_size) => build_tree(
+            rt,
+            written(&matrix, matrix_size),
+            written(&names, names_size),
+        ),
+        Derived::Refused(why) => tell_why(rt, text, why),
     }
 }
 
-fn main() {
+fn main(rt: HostRuntime) -> io::Result<()> {
     let mut text = text_room();
-    let size = io::read_full(STDIN_FILENO, &mut text);
+    let size = input::read_full(&mut rt.stdin(), &mut text)?;
     if size > LONGEST {
-        tell_number(b"the text is longer than ", LONGEST as u64);
-        tell(b" bytes\n");
-        return;
+        return eprintln!(rt; "the text is longer than {LONGEST} bytes");
     }
-    read_trees(&text[..size]);
+    read_trees(&rt, &text[..size])
 }

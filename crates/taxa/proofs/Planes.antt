@@ -11,7 +11,7 @@ use lib.Dec.{ltb, eqb}
 use lib.ListN.{length, get_or, get_or-eq_default}
 use borrow.Author.Tests.{ltb-false, lt-ltb, le-ltb, eq-eqb, ne_eqb}
 use Rattle.taxa.specs.Sum.{sum, inside}
-use Rattle.taxa.specs.Sets.{has, ◌∈◌, ◌∩◌, ◌∪◌, ◌∖◌, mass, unit, count, multiplicity, planar, plane_sum, multiplicity_in, plane_has, Multiplicities}
+use Rattle.taxa.specs.Sets.{has, ◌∩◌, ◌∪◌, ◌∖◌, mass, unit, count, multiplicity, planar, plane_sum, multiplicity_in, plane_has, Multiplicities}
 use Rattle.taxa.proofs.Sums.{sum_≡, sum_*, sum_first, sum_bound}
 use Rattle.taxa.proofs.Insides.{inside_swap}
 use Rattle.taxa.proofs.Digits.{bit_has, bit_zero, one, half_lt, has_suc, has_∪, has_none, has_pow}

@@ -1,7 +1,7 @@
 -- Ranks: how many taxa of a set are below one of its taxa; and the sizes of a row of sets, added up.
-use mathlib.Core.Path.{◌≡◌, ap, ap₂, sym, ◌∙◌}
-use mathlib.Core.Bool.{Bool, true, cond}
-use Prim.Native.Nat.{ℕ, suc, ◌+◌, ◌*◌, ◌-◌, ◌^◌, ◌≤◌, ◌<◌}
+use mathlib.Core.Path.{◌≡◌, ap, sym, ◌∙◌}
+use mathlib.Core.Bool.{Bool, cond}
+use Prim.Native.Nat.{ℕ, suc, ◌+◌, ◌*◌, ◌≤◌, ◌<◌}
 use native.Mathlib.Omega.{arith}
 use Rattle.taxa.specs.Sum.{sum, inside}
 use Rattle.taxa.specs.Sets.{has, ◌∈◌, ◌⊆◌, ◌∩◌, mass, unit, count, sizes, all}

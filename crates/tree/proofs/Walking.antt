@@ -17,7 +17,7 @@ use Rattle.method.specs.Tree.{Group, Walk, leaf, walked, node, build, now, later
 use Rattle.method.proofs.Depth.{build_leaf, build_node}
 use Rattle.method.proofs.Order.{split_two, split_beside}
 use Rattle.method.proofs.Parts.{inside_R}
-use Rattle.method.proofs.Splits.{split_parts, part_in}
+use Rattle.method.proofs.Splits.{split_parts_lem, part_in}
 use Rattle.search.specs.Search.{cols_of}
 use Rattle.split.specs.inner.Handing.{Parallel}
 use Rattle.tree.specs.inner.Grow.{Loaded, Ready, TurnsClear, Grown, AllSmall}
@@ -104,7 +104,7 @@ parts_small μ m n cols S room l fits two enough =
     let wide : S < 2 ^ 64 = omega (arith, pow_mono l) in
     let Ps = split_parts 64 μ m cols S in
     record {
-      short = λ i b. omega (arith, ⊆-≤ (inside_R 64 μ m (after 64 μ m cols S) S (split_parts 64 μ m cols S wide two) (get_or_in 0 Ps i b)));
+      short = λ i b. omega (arith, ⊆-≤ (inside_R 64 μ m (after 64 μ m cols S) S (split_parts_lem 64 μ m cols S wide two) (get_or_in 0 Ps i b)));
       small = λ i b. (part_in 64 μ m cols S wide two (get_or_in 0 Ps i b)).2;
       fits = λ i b. omega (arith, split_beside 64 μ m cols S wide two (get_or_in 0 Ps i b), split_two 64 μ m cols S wide two);
     }

@@ -1,5 +1,4 @@
 -- `matrix::column_in` meets its contract: the columns start where `columns_at` says.
-use borrow.Author.Rules.{rules}
 use Rattle.matrix.proofs.column_in.Goals as goal
 
 pub returns : goal.returns

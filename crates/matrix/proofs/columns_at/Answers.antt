@@ -1,5 +1,4 @@
 -- `matrix::columns_at` meets its contract: a record of multiplicities stands before the columns, or none.
-use borrow.Author.Rules.{rules}
 use native.Mathlib.Omega.{arith}
 use mathlib.Core.Path.{sym, ◌∙◌}
 use Rattle.matrix.specs.Matrix.{columns_at}

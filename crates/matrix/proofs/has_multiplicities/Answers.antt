@@ -1,5 +1,4 @@
 -- `matrix::has_multiplicities` meets its contract: too short a file has no such record, and else the kind says it.
-use borrow.Author.Rules.{rules}
 use native.Mathlib.Omega.{arith}
 use lib.ListN.{length}
 use borrow.Author.Tests.{lt-ltb, le-ltb}

@@ -1,8 +1,6 @@
 -- `matrix::judge_multiplicities` meets its contract. The invariant: the sum is that of the multiplicities so far, of which none is 0.
-use borrow.Author.Rules.{rules}
 use native.Mathlib.Omega.{arith}
 use mathlib.Core.Path.{◌≡◌}
-use Prim.Native.Nat.{◌-◌, ◌*◌, ◌≤◌}
 use lib.ListN.{length}
 use Rattle.taxa.specs.Sum as sums
 use Rattle.taxa.specs.Sets as sets
@@ -36,7 +34,7 @@ pub returns-then-sum-gt127 : goal.returns-then-sum-gt127
 returns-then-sum-gt127 c =
     let ended : (let ms = c.args.multiplicities.now in
     (c.loop-i.sum ≡ sums.sum (length ms) (sets.multiplicity ms)) × Some ms (length ms)) =
-        let ms = c.args.multiplicities.now in
+    let ms = c.args.multiplicities.now in
     let all : c.loop-i.i ≡ length ms = omega arith in
     (rw all at c.loop-i.invariant.1, rw all at c.loop-i.invariant.3) in
     let (sum_is_lem, some) = ended in too_heavy _ _ _ some (omega arith)
@@ -45,7 +43,7 @@ pub returns-then-sum-multiplicities : goal.returns-then-sum-multiplicities
 returns-then-sum-multiplicities c =
     let ended : (let ms = c.args.multiplicities.now in
     (c.loop-i.sum ≡ sums.sum (length ms) (sets.multiplicity ms)) × Some ms (length ms)) =
-        let ms = c.args.multiplicities.now in
+    let ms = c.args.multiplicities.now in
     let all : c.loop-i.i ≡ length ms = omega arith in
     (rw all at c.loop-i.invariant.1, rw all at c.loop-i.invariant.3) in
     let (sum_is_lem, some) = ended in all_one _ _ _ some (omega arith) (omega arith)
@@ -54,7 +52,7 @@ pub returns : goal.returns
 returns c =
     let ended : (let ms = c.args.multiplicities.now in
     (c.loop-i.sum ≡ sums.sum (length ms) (sets.multiplicity ms)) × Some ms (length ms)) =
-        let ms = c.args.multiplicities.now in
+    let ms = c.args.multiplicities.now in
     let all : c.loop-i.i ≡ length ms = omega arith in
     (rw all at c.loop-i.invariant.1, rw all at c.loop-i.invariant.3) in
     let (sum_is_lem, some) = ended in multiplicities_taken _ _ _ some (omega arith) (omega arith)

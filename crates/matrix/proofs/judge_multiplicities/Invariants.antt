@@ -1,13 +1,10 @@
 -- `matrix::judge_multiplicities` meets its contract. The invariant: the sum is that of the multiplicities so far, of which none is 0.
-use borrow.Author.Rules.{rules}
-use native.Mathlib.Omega.{arith}
 use mathlib.Core.Path.{◌≡◌}
 use Prim.Native.Nat.{◌-◌, ◌*◌, ◌≤◌}
 use lib.ListN.{length}
 use Rattle.taxa.specs.Sum as sums
 use Rattle.taxa.specs.Sets as sets
-use Rattle.taxa.proofs.Sums.{sum_next}
-use Rattle.matrix.proofs.Multiplying.{Some, some_next, at_multiplicity, some_none, too_heavy, all_one, multiplicities_taken}
+use Rattle.matrix.proofs.Multiplying.{Some}
 use Rattle.matrix.proofs.judge_multiplicities.Given as goal
 
 abbrev pub invariant-loop-i : goal.invariant-loop-i

@@ -1,5 +1,4 @@
 -- `matrix::multiplicity_count` meets its contract: n, where the record is there.
-use borrow.Author.Rules.{rules}
 use native.Mathlib.Omega.{arith}
 use mathlib.Core.Path.{sym, ◌∙◌}
 use Rattle.matrix.specs.Matrix.{multiplicity_count}

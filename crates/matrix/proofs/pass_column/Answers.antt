@@ -1,5 +1,4 @@
 -- `matrix::pass_column` meets its contract: a refused step goes straight out, and else the column is read and judged.
-use borrow.Author.Rules.{rules}
 use native.Mathlib.Omega.{arith}
 use mathlib.Core.Path.{◌≡◌, sym, ◌∙◌}
 use Rattle.record.specs.Records as records
@@ -12,18 +11,18 @@ pub returns-in_default : goal.returns-in_default
 unfolding column_passed
 returns-in_default c =
     let found : c.read-step.result ≡ step c.args.file.now c.args.here.at (record_of records.column) =
-        rw (← c.of.ensures) c.read-step.ensures in
+    rw (← c.of.ensures) c.read-step.ensures in
     rw (c.refusal.ensures, ← found, c.in_default.is)
 
 pub read-requires : goal.read-requires
 read-requires c =
     let found : c.read-step.result ≡ step c.args.file.now c.args.here.at (record_of records.column) =
-        rw (← c.of.ensures) c.read-step.ensures in
+    rw (← c.of.ensures) c.read-step.ensures in
     omega (arith, held (sym c.in-Payload.is ∙ found))
 
 pub returns : goal.returns
 unfolding column_passed
 returns c =
     let found : c.read-step.result ≡ step c.args.file.now c.args.here.at (record_of records.column) =
-        rw (← c.of.ensures) c.read-step.ensures in
-    rw (c.judge.ensures, c.read.ensures, ← found c.before.before.before.before.before, c.in-Payload.is)
+    rw (← c.of.ensures) c.read-step.ensures in
+    rw (c.judge.ensures, c.read.ensures, ← found, c.in-Payload.is)

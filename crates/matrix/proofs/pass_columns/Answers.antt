@@ -1,6 +1,4 @@
 -- `matrix::pass_columns` meets its contract. The invariant: what is left to pass comes to what all comes to.
-use borrow.Author.Rules.{rules}
-use mathlib.Core.Path.{◌≡◌}
 use lib.Arith.{le-zero}
 use native.Mathlib.Omega.{arith}
 use Rattle.matrix.specs.Check.{columns_passed}

@@ -1,10 +1,6 @@
 -- `matrix::pass_columns` meets its contract. The invariant: what is left to pass comes to what all comes to.
-use borrow.Author.Rules.{rules}
 use mathlib.Core.Path.{◌≡◌}
-use lib.Arith.{le-zero}
-use native.Mathlib.Omega.{arith}
 use Rattle.matrix.specs.Check.{columns_passed}
-use Rattle.matrix.proofs.Judging.{one_more}
 use Rattle.matrix.proofs.pass_columns.Given as goal
 
 abbrev pub invariant-loop-left : goal.invariant-loop-left

@@ -1,5 +1,4 @@
 -- `matrix::pass_end` meets its contract: a refused step goes straight out, and else nothing may follow.
-use borrow.Author.Rules.{rules}
 use mathlib.Core.Path.{◌≡◌}
 use Rattle.record.specs.Records as records
 use Rattle.record.specs.Records.{step, record_of}
@@ -10,12 +9,12 @@ pub returns-in_default : goal.returns-in_default
 unfolding end_passed
 returns-in_default c =
     let found : c.read-step.result ≡ step c.args.file.now c.args.here.at (record_of records.matrix_end) =
-        rw (← c.of.ensures) c.read-step.ensures in
+    rw (← c.of.ensures) c.read-step.ensures in
     rw (c.refusal.ensures, ← found, c.in_default.is)
 
 pub returns : goal.returns
 unfolding end_passed
 returns c =
     let found : c.read-step.result ≡ step c.args.file.now c.args.here.at (record_of records.matrix_end) =
-        rw (← c.of.ensures) c.read-step.ensures in
-    rw (c.nothing_after.ensures, ← found c.before.before.before.before, c.in-Payload.is)
+    rw (← c.of.ensures) c.read-step.ensures in
+    rw (c.nothing_after.ensures, ← found, c.in-Payload.is)

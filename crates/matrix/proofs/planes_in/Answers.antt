@@ -1,19 +1,18 @@
 -- `matrix::planes_in` meets its contract: the bytes it hands on are the multiplicities.
-use borrow.Author.Rules.{rules}
 use native.Mathlib.Omega.{arith}
 use mathlib.Core.Path.{◌≡◌}
 use Prim.Native.Nat.{◌+◌, ◌-◌}
 use Rattle.matrix.specs.Matrix.{multiplicity_count, multiplicities_in}
 use Rattle.matrix.proofs.planes_in.Goals as goal
 
--- As many bytes as there are multiplicities.
-handed_on : (c : goal.After-multiplicity_count) → 12 + c.multiplicity_count.result - 12 ≡ multiplicity_count c.args.file.now
-handed_on c = omega arith
-
 pub planes_of-requires : goal.planes_of-requires
 unfolding multiplicities_in
-planes_of-requires c = rw (handed_on c.before) c.requires.fit
+planes_of-requires c =
+    let handed_on : 12 + c.multiplicity_count.result - 12 ≡ multiplicity_count c.args.file.now = omega arith in
+    rw handed_on c.requires.fit
 
 pub returns : goal.returns
 unfolding multiplicities_in
-returns c = rw (handed_on c.before.before) at c.planes_of.ensures
+returns c =
+    let handed_on : 12 + c.multiplicity_count.result - 12 ≡ multiplicity_count c.args.file.now = omega arith in
+    rw handed_on at c.planes_of.ensures

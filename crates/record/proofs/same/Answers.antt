@@ -1,11 +1,7 @@
 -- `record::same` meets its contract. The invariant: what is left to compare comes to what all comes to.
-use borrow.Author.Rules.{rules}
 use borrow.Author.Tests.{eq-eqb, ne_eqb}
-use mathlib.Core.Path.{◌≡◌, sym}
+use mathlib.Core.Path.{sym}
 use native.Mathlib.Omega.{arith}
-use Prim.Native.Nat.{◌-◌, ◌≤◌}
-use lib.ListN.{length, drop}
-use Rattle.record.specs.Bytes.{equal}
 use Rattle.record.proofs.Equal.{equal_next, equal_end, other_size}
 use Rattle.record.proofs.same.Goals as goal
 

@@ -1,8 +1,5 @@
 -- `search::by_flows` meets its contract: the taxon whose flow runs last is the first that is parted for the least.
-use borrow.Author.Rules.{rules}
 use native.Mathlib.Omega.{arith}
-use mathlib.Core.Path.{◌≡◌}
-use Prim.Native.Nat.{◌<◌, ◌^◌}
 use lib.Pow.{pow-lt}
 use Rattle.taxa.specs.Sets.{low}
 use Rattle.taxa.proofs.Counts.{count_pos}
@@ -13,26 +10,18 @@ use Rattle.search.proofs.Trying.{pow_off, parted_off, stands}
 use Rattle.search.proofs.by_flows.Goals as goal
 
 -- The source is the group's lowest taxon.
-is_low : (c : goal.After-largest-arg-3-1) → let a = c.args in c.single-s.result ≡ 2 ^ low a.n a.group
-is_low c =
-    let p = c.requires in
-    source_is c.args.n p.0.taxa p.2 p.3 c.lowest.ensures.0 c.single-s.ensures
-
-fits : (c : goal.After-largest-arg-3-1) → c.single-s.result < 2 ^ c.args.n
-fits c =
-    omega (arith, c.single-s.ensures, pow-lt (below c.args.n c.requires.2 c.lowest.ensures.2))
-
 pub largest-cut-requires : goal.largest-cut-requires
 largest-cut-requires c =
     let p = c.requires in
     let r = c.cheapest-t.ensures in
     let s = low c.args.n c.args.group in
-    (p.0, omega (arith, p.1, r.1.long), fits c, r.0.met.below, rw (is_low c) (pow_off {s = s} (λ e. parted_off r.0 e)), r.2)
+    (p.0, omega (arith, p.1, r.1.long), omega (arith, c.single-s.ensures, pow-lt (below c.args.n p.2 c.lowest.ensures.2)), r.0.met.below, rw (source_is c.args.n p.0.taxa p.2 p.3 c.lowest.ensures.0 c.single-s.ensures) (pow_off {s = s} (λ e. parted_off r.0 e)), r.2)
 
 pub returns : goal.returns
 returns c =
     let r = c.cheapest-t.ensures in
-    let f = rw (is_low c.before.before) at c.largest-cut.ensures in
+    let p = c.requires in
+    let f = rw (source_is c.args.n p.0.taxa p.2 p.3 c.lowest.ensures.0 c.single-s.ensures) at c.largest-cut.ensures in
     (record { each = λ O Z g j k. divided g j k r.0 (stands f.0 (omega (arith, f.0.small))) }, kept_then r.1 f.1, f.2)
 
 pub lowest-requires : goal.lowest-requires

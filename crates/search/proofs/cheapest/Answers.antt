@@ -1,28 +1,18 @@
 -- `search::cheapest` meets its contract. The invariant: the taxa below u have been tried.
-use borrow.Author.Rules.{rules}
 use native.Mathlib.Omega.{arith}
 use mathlib.Core.Path.{◌≡◌, sym, ◌∙◌}
-use Prim.Native.Nat.{ℕ, ◌<◌, ◌≤◌, ◌-◌}
+use Prim.Native.Nat.{ℕ, ◌<◌}
 use Rattle.taxa.specs.Sets.{count, sizes, low}
 use Rattle.taxa.proofs.Counts.{count_pos, count_width}
 use Rattle.taxa.proofs.Members.{below, low_in, low_≤, low_width}
-use Rattle.search.specs.Workspace.{Kept}
-use Rattle.search.specs.Search.{nth, Spare}
-use Rattle.search.specs.inner.Trying.{Trying}
+use Rattle.search.specs.Search.{nth}
 use Rattle.search.proofs.Workspace.{kept_none, kept_then}
 use Rattle.search.proofs.Bonds.{weighs_small}
 use Rattle.search.proofs.Trying.{trying_start, trying_end}
 use Rattle.search.proofs.cheapest.Goals as goal
 
-some : (c : goal.After-shared_slice_known-1) → 0 < c.args.group
-some c = count_pos c.args.n (omega (arith, c.requires.3))
-
--- The lowest of 64 taxa is that of n.
-is_low : (c : goal.After-lowest-s) → let a = c.args in c.lowest-s.result ≡ low a.n a.group
-is_low c = c.lowest-s.ensures.0 ∙ sym (low_width c.requires.0.taxa (some c.before.before) c.requires.2)
-
-low_small : (c : goal.After-lowest-s) → let a = c.args in low a.n a.group < a.n
-low_small c = below c.args.n c.requires.2 (low_in c.args.n (some c.before.before) c.requires.2)
+some : (n : ℕ) {x : ℕ} → 1 < count n x → 0 < x
+some n h = count_pos n (omega (arith, h))
 
 pub bound_of-bound-requires : goal.bound_of-bound-requires
 bound_of-bound-requires c =
@@ -38,9 +28,12 @@ pub loop-u-init : goal.loop-u-init
 loop-u-init c =
     let a = c.args in
     let p = c.requires in
-    rw (is_low c) (
+    let some = some a.n p.3 in
+    -- The lowest of 64 taxa is that of n.
+    let is_low : c.lowest-s.result ≡ low a.n a.group = c.lowest-s.ensures.0 ∙ sym (low_width p.0.taxa some p.2) in
+    rw is_low (
       omega arith,
-      omega (arith, low_small c),
+      omega (arith, below a.n p.2 (low_in a.n some p.2)),
       trying_start c.bound_of-bound.result (λ i h. low_≤ a.n p.2 (record { is = h })),
       kept_none (sizes a.m (nth a.joined.now)) a.ws.now,
       p.4,
@@ -66,7 +59,7 @@ returns c =
     (trying_end p.0.taxa p.2 (rw e at v.invariant.2) p.6 c.bound_of-bound.ensures, v.invariant.3, v.invariant.4)
 
 pub lowest-s-requires : goal.lowest-s-requires
-lowest-s-requires c = some c.before
+lowest-s-requires c = some c.args.n c.requires.3
 
 pub overflow_step-u : goal.overflow_step-u
 overflow_step-u c = omega (arith, c.lowest-s.ensures.1)

@@ -1,19 +1,17 @@
 -- `search::network_of` meets its contract. The invariant: the places passed are filled, in both lists.
-use borrow.Author.Rules.{rules}
 use native.Mathlib.Omega.{arith}
 use mathlib.Core.Bool.{Bool, cond}
-use mathlib.Core.List.{List}
 use mathlib.Core.Path.{◌≡◌, sym, ap, ap₂, ◌∙◌}
 use native.Mathlib.Decide.{dec_lt}
 use native.Mathlib.Nat.{mul-le-mul_right}
-use Prim.Native.Nat.{ℕ, ◌≤◌, ◌<◌, ◌-◌, ◌*◌, ◌^◌}
+use Prim.Native.Nat.{ℕ, ◌≤◌, ◌<◌, ◌*◌, ◌^◌}
 use lib.Dec.{ltb}
 use borrow.Author.Tests.{lt-ltb, le-ltb}
-use Rattle.taxa.specs.Sets.{◌∩◌, mass, count, multiplicity_in}
+use Rattle.taxa.specs.Sets.{mass, count, multiplicity_in}
 use Rattle.taxa.proofs.Counts.{count_pos, count_zero}
 use Rattle.taxa.proofs.Members.{∩-≤}
 use Rattle.search.specs.Search.{nth}
-use Rattle.search.proofs.Tables.{Table, table_start, table_next}
+use Rattle.search.proofs.Tables.{table_start, table_next}
 use Rattle.search.proofs.network_of.Invariants.{joined_at, limit_at}
 use Rattle.search.proofs.network_of.Goals as goal
 
@@ -41,8 +39,8 @@ loop-c-preserved c =
     let a = c.args in
     let v = c.loop-c.invariant in
     let b : c.loop-c.c < 256 = omega (arith, c.requires.0) in
-    let z = c.common in
-    let fits : z.result < 2 ^ 64 = omega (arith, z.ensures, ∩-≤ (nth a.zeros.now c.loop-c.c) a.group, c.fits.group.fits) in (
+    let z = c.common-z in
+    let fits : z.result < 2 ^ 64 = omega (arith, z.ensures, ∩-≤ (nth a.zeros.now c.loop-c.c) a.group, c.ranges.group.fits) in (
       omega arith,
       table_next v.1 b (c.unless_none.ensures ∙ ap₂ (λ (t : Bool) (x : ℕ). cond t x 0) (some_count fits ∙ ap (λ (x : ℕ). ltb 0 (count 64 x)) z.ensures) c.common.ensures),
       table_next v.2 (omega (arith, b)) (ap₂ (λ (x y : ℕ). x * y) c.wide.ensures.0 (c.mass_in.ensures.0 ∙ ap (mass 64 (multiplicity_in a.planes.now)) z.ensures)),

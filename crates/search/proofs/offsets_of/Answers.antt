@@ -1,13 +1,12 @@
 -- `search::offsets_of` meets its contract. The invariant: the offsets of the columns below c stand, and the sum is that of c.
-use borrow.Author.Rules.{rules}
 use native.Mathlib.Omega.{arith}
 use mathlib.Core.Path.{◌≡◌, refl}
-use Prim.Native.Nat.{ℕ, ◌+◌, ◌-◌, ◌≤◌}
+use Prim.Native.Nat.{◌+◌, ◌≤◌}
 use Rattle.taxa.specs.Sum.{sum}
 use Rattle.taxa.specs.Sets.{sizes}
 use Rattle.taxa.proofs.Ranks.{sizes_next, sizes_few}
 use Rattle.search.specs.Search.{nth}
-use Rattle.search.proofs.Tables.{Table, table_start, table_next}
+use Rattle.search.proofs.Tables.{table_start, table_next}
 use Rattle.search.proofs.offsets_of.Goals as goal
 
 -- The sum with the next column's: at most 64 for each column.
@@ -27,7 +26,7 @@ loop-c-init c = (omega arith, refl, table_start (λ e. sizes e (nth c.args.joine
 pub loop-c-preserved : goal.loop-c-preserved
 loop-c-preserved c =
     let l = c.loop-c in
-    (omega arith, next c, table_next l.inv.2 (omega (arith, c.requires.0)) l.inv.1)
+    (omega arith, next c, table_next l.invariant.2 (omega (arith, c.requires.0)) l.invariant.1)
 
 pub returns : goal.returns
 returns c =

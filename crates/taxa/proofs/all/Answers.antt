@@ -1,5 +1,4 @@
 -- `taxa::all` meets its contract: 2 to the 64 is out of a word, and 1 less is the word of ones.
-use borrow.Author.Rules.{rules}
 use native.Mathlib.Omega.{arith}
 use mathlib.Core.Path.{◌≡◌, ap}
 use Prim.Native.Nat.{ℕ, ◌^◌}

@@ -1,5 +1,4 @@
 -- `taxa::listed` meets its contract: inside the list nothing is read past its end.
-use borrow.Author.Rules.{rules}
 use native.Mathlib.Omega.{arith}
 use mathlib.Core.Path.{sym}
 use lib.ListN.{get_or-eq_default}

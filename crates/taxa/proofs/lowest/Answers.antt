@@ -1,5 +1,4 @@
 -- `taxa::lowest` meets its contract: the lowest taxon of a set that has one is in it.
-use borrow.Author.Rules.{rules}
 use Rattle.taxa.proofs.Members.{low_in, low_<}
 use Rattle.taxa.proofs.lowest.Goals as goal
 

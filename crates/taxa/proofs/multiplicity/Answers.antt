@@ -1,5 +1,4 @@
 -- `taxa::multiplicity` meets its contract, by the table.
-use borrow.Author.Rules.{rules}
 use native.Mathlib.Omega.{arith}
 use Rattle.taxa.proofs.Planes.{in_small}
 use Rattle.taxa.proofs.multiplicity.Goals as goal

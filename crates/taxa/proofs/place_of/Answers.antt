@@ -1,5 +1,4 @@
 -- `taxa::place_of` meets its contract: the sets come first.
-use borrow.Author.Rules.{rules}
 use native.Mathlib.Omega.{arith}
 use Rattle.taxa.proofs.place_of.Goals as goal
 

@@ -1,5 +1,4 @@
 -- `taxa::plane_has` meets its contract: the last set has those that stand for several.
-use borrow.Author.Rules.{rules}
 use borrow.Author.Tests.{eq-eqb, ne_eqb}
 use mathlib.Core.Path.{sym, ap, ◌∙◌}
 use mathlib.Core.Bool.{Bool, cond}

@@ -1,15 +1,10 @@
 -- `taxa::plane_of` meets its contract: of the taxa passed, the set has those that it should (`one_more`).
-use mathlib.Core.Path.{◌≡◌, refl, ap, sym, ◌∙◌}
-use mathlib.Core.Bool.{Bool, false, cond}
-use Prim.Native.Nat.{ℕ, ◌^◌, ◌≤◌, ◌-◌}
-use native.Mathlib.Decide.{dec_lt}
-use native.Mathlib.Omega.{arith}
-use borrow.Author.Tests.{lt-ltb, le-ltb}
+use mathlib.Core.Path.{◌≡◌}
+use mathlib.Core.Bool.{false, cond}
+use Prim.Native.Nat.{ℕ, ◌≤◌, ◌-◌}
 use lib.Dec.{ltb}
 use lib.ListN.{length, get_or}
-use Rattle.taxa.specs.Sets.{has, ◌∪◌, plane_has}
-use Rattle.taxa.proofs.Digits.{has_none}
-use Rattle.taxa.proofs.Planes.{one_more, past_none}
+use Rattle.taxa.specs.Sets.{has, plane_has}
 use Rattle.taxa.proofs.plane_of.Given as goal
 
 abbrev pub invariant-loop-i : goal.invariant-loop-i

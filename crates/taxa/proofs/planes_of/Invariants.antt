@@ -1,13 +1,8 @@
 -- `taxa::planes_of` meets its contract: each place that was filled has what it should.
-use mathlib.Core.Path.{◌≡◌, refl, sym, ap, subst, ◌∙◌}
-use Prim.Native.Nat.{ℕ, ◌+◌, ◌≤◌, ◌<◌, ◌-◌}
-use native.Mathlib.Decide.{dec_lt}
-use native.Mathlib.Omega.{arith}
-use lib.ListN.{length, get_or, set, length-set}
-use lib.Seq.{get_or-set_same, get_or-set_other}
-use Rattle.taxa.specs.Sets.{multiplicity}
+use mathlib.Core.Path.{◌≡◌}
+use Prim.Native.Nat.{ℕ, ◌≤◌, ◌<◌, ◌-◌}
+use lib.ListN.{length, get_or}
 use Rattle.taxa.specs.inner.Planes.{Placed}
-use Rattle.taxa.proofs.Planes.{planes_hold}
 use Rattle.taxa.proofs.planes_of.Given as goal
 
 abbrev pub invariant-loop-p : goal.invariant-loop-p

@@ -1,5 +1,4 @@
 -- `taxa::rank` meets its contract: the set is masked below i, and counted.
-use borrow.Author.Rules.{rules}
 use native.Mathlib.Omega.{arith}
 use mathlib.Core.Path.{◌∙◌, ap}
 use Prim.Native.Nat.{ℕ}

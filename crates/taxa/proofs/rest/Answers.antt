@@ -1,5 +1,4 @@
 -- `taxa::rest` meets its contract: the lowest set digit goes.
-use borrow.Author.Rules.{rules}
 use native.Mathlib.Omega.{arith}
 use Prim.Native.Nat.{◌-◌}
 use lib.Bits.{and_le_r}

@@ -1,5 +1,4 @@
 -- `taxa::single` meets its contract: the one digit is not shifted out of 64.
-use borrow.Author.Rules.{rules}
 use mathlib.Core.Path.{◌∙◌}
 use Prim.Native.Nat.{◌^◌}
 use native.Mathlib.Nat.{one-mul}

@@ -1,6 +1,5 @@
 -- `taxa::with_if` meets its contract: one taxon more, or none.
-use borrow.Author.Rules.{rules}
-use mathlib.Core.Path.{sym, ap, ap₂, ◌∙◌}
+use mathlib.Core.Path.{sym, ap, ◌∙◌}
 use mathlib.Core.Bool.{Bool, cond}
 use Prim.Native.Nat.{ℕ, ◌^◌}
 use Rattle.taxa.specs.Sets.{◌∪◌}

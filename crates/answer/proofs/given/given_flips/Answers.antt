@@ -2,28 +2,14 @@
 use borrow.Author.Rules.{rules}
 use mathlib.Core.Path.{◌≡◌, refl, sym, subst, ◌∙◌}
 use Prim.Native.Nat.{ℕ, ◌+◌, ◌*◌, ◌-◌, ◌≤◌}
-use lib.ListN.{get_or}
 use Rattle.record.specs.declared.Passed.TheVariants.{At}
 use Rattle.answer.specs.Rules.{floor_of}
 use Rattle.answer.specs.Tests.{as_given, walk, entry_test, flips_test}
 use Rattle.answer.proofs.Rows.{floor_next}
-use Rattle.answer.proofs.Kept.{EntryKept, entry_keeps}
+use Rattle.answer.proofs.Kept.{entry_keeps}
 use Rattle.answer.proofs.Walks.{walk_none, walk_more, walk_stops, given_entry}
 use native.Mathlib.Omega.{arith}
 use Rattle.answer.proofs.given.given_flips.Goals as goal
-
--- Where it passed, it keeps its rules.
-keeps : (c : goal.In-At) →
-    let l = c.loop-j in
-    let s = c.args in
-    EntryKept s.n s.m (floor_of s.columns.now l.j) (get_or s.columns.now l.j 0) (get_or s.raised.now l.j 0) (get_or s.lowered.now l.j 0)
-unfolding entry_test
-keeps c =
-    let tested : (let l = c.loop-j in
-    let s = c.args in
-    c.judge-passed.result ≡ flips_test as_given s.n s.m s.columns.now s.raised.now s.lowered.now l.j l.here) =
-        rw (c.judge-passed.ensures, c.past.ensures, c.entry_fault-fault.ensures, c.loop-j.invariant.2) in
-    entry_keeps _ _ _ _ _ _ (given_entry _ _ _ _ _ _ _ (sym c.in-At.is ∙ tested)).0
 
 pub loop-j-init : goal.loop-j-init
 unfolding floor_of
@@ -40,7 +26,13 @@ returns-in_default c =
     c.in_default.is ∙ walk_stops _ _ _ l.j (omega arith) l.invariant.3 (sym c.in_default.is ∙ tested)
 
 pub overflow_add-floor : goal.overflow_add-floor
-overflow_add-floor c = omega (arith, keeps c.before)
+unfolding entry_test
+overflow_add-floor c =
+    let tested : (let l = c.loop-j in
+    let s = c.args in
+    c.judge-passed.result ≡ flips_test as_given s.n s.m s.columns.now s.raised.now s.lowered.now l.j l.here) =
+        rw (c.judge-passed.ensures, c.past.ensures, c.entry_fault-fault.ensures, c.loop-j.invariant.2) in
+    omega (arith, entry_keeps _ _ _ _ _ _ (given_entry _ _ _ _ _ _ _ (sym c.in-At.is ∙ tested)).0)
 
 pub loop-j-preserved : goal.loop-j-preserved
 unfolding entry_test

@@ -33,4 +33,4 @@ pub returns : goal.returns
 returns c =
     let l = c.loop-j in
     let all : l.j ≡ c.args.flips = omega arith in
-    rw (← all) (l.invariant.4, (l.invariant.5, l.invariant.6))
+    rw (← all) record { columns_after = l.invariant.4; raised_after = l.invariant.5; lowered_after = l.invariant.6 }

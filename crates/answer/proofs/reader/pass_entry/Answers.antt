@@ -26,25 +26,25 @@ pub overflow_add-at : goal.overflow_add-at
 overflow_add-at c =
     let found : c.read-step.result ≡ step c.args.file.now c.args.here.at (record_of records.flips) =
         rw (← c.of.ensures) c.read-step.ensures in
-    omega (arith, held (sym c.in-Payload.is ∙ found c.before.before.before.before))
+    omega (arith, held (sym c.in-Payload.is ∙ found))
 
 pub u64_at-requires : goal.u64_at-requires
 u64_at-requires c =
     let found : c.read-step.result ≡ step c.args.file.now c.args.here.at (record_of records.flips) =
         rw (← c.of.ensures) c.read-step.ensures in
-    omega (arith, held (sym c.in-Payload.is ∙ found c.before.before.before.before))
+    omega (arith, held (sym c.in-Payload.is ∙ found))
 
 pub overflow_add-at-2 : goal.overflow_add-at-2
 overflow_add-at-2 c =
     let found : c.read-step.result ≡ step c.args.file.now c.args.here.at (record_of records.flips) =
         rw (← c.of.ensures) c.read-step.ensures in
-    omega (arith, held (sym c.in-Payload.is ∙ found c.before.before.before.before.before))
+    omega (arith, held (sym c.in-Payload.is ∙ found))
 
 pub u64_at-requires-2 : goal.u64_at-requires-2
 u64_at-requires-2 c =
     let found : c.read-step.result ≡ step c.args.file.now c.args.here.at (record_of records.flips) =
         rw (← c.of.ensures) c.read-step.ensures in
-    omega (arith, held (sym c.in-Payload.is ∙ found c.before.before.before.before.before))
+    omega (arith, held (sym c.in-Payload.is ∙ found))
 
 pub returns : goal.returns
 unfolding entry_test

@@ -3,12 +3,9 @@ use borrow.Author.Rules.{rules}
 use mathlib.Core.Path.{◌≡◌, refl, sym, ap, subst, ◌∙◌}
 use mathlib.Core.List.{List}
 use Prim.Native.Nat.{ℕ, ◌+◌, ◌*◌, ◌-◌, ◌≤◌}
-use Rattle.record.specs.Records as records
-use Rattle.record.specs.Records.{record_of}
 use Rattle.record.specs.declared.Cursor.{Cursor}
 use Rattle.record.specs.declared.Passed.{Passed}
 use Rattle.record.specs.declared.Passed.TheVariants.{At}
-use Rattle.record.proofs.Steps.{Held}
 use Rattle.answer.specs.Content.{columns_from, raised_from, lowered_from}
 use Rattle.answer.specs.Rules.{floor_of}
 use Rattle.answer.specs.Tests.{in_file, walk, flips_test}
@@ -17,13 +14,6 @@ use Rattle.answer.proofs.Walks.{walk_none, walk_more, walk_stops, entry_met, fli
 use native.Mathlib.Omega.{arith}
 use Rattle.answer.proofs.reader.pass_flips.Invariants.{one}
 use Rattle.answer.proofs.reader.pass_flips.Goals as goal
-
--- Where it passed, it stands there.
-stands : (c : goal.After-struct_known-1) →
-    let l = c.loop-j in
-    Held c.args.file.now l.here.at (record_of records.flips) (l.here.at + 4) c.in-At.moved
-stands c =
-    (entry_met _ _ _ _ _ _ _ c.loop-j.here (sym c.in-At.is ∙ c.pass_entry-passed.ensures)).1
 
 pub loop-j-init : goal.loop-j-init
 unfolding floor_of
@@ -41,10 +31,10 @@ returns-in_default c =
     c.in_default.is ∙ walk_stops _ _ _ l.j (omega arith) l.invariant.3 (sym c.in_default.is ∙ tested)
 
 pub overflow_add-here : goal.overflow_add-here
-overflow_add-here c = omega (arith, stands c)
+overflow_add-here c = omega (arith, (entry_met _ _ _ _ _ _ _ c.loop-j.here (sym c.in-At.is ∙ c.pass_entry-passed.ensures)).1)
 
 pub u16_at-requires : goal.u16_at-requires
-u16_at-requires c = omega (arith, stands c)
+u16_at-requires c = omega (arith, (entry_met _ _ _ _ _ _ _ c.loop-j.here (sym c.in-At.is ∙ c.pass_entry-passed.ensures)).1)
 
 pub loop-j-preserved : goal.loop-j-preserved
 loop-j-preserved c =
@@ -57,7 +47,7 @@ loop-j-preserved c =
     let l = c.loop-j in
     let s = c.args in (
       omega arith,
-      omega (arith, stands c.before),
+      omega (arith, (entry_met _ _ _ _ _ _ _ c.loop-j.here (sym c.in-At.is ∙ c.pass_entry-passed.ensures)).1),
       ap (λ (k : ℕ). k + 1) (c.u16_at.ensures ∙ column_there s.file.now s.flips s.from l.here l.j (omega arith) l.invariant.1) ∙ floor_next _ l.j,
       sym c.in-At.is ∙ tested ∙ walk_more _ _ l.j l.invariant.3,
     )

@@ -3,7 +3,6 @@ use borrow.Author.Rules.{rules}
 use mathlib.Core.Path.{◌≡◌, refl, sym, ◌∙◌}
 use Prim.Native.Nat.{◌≤◌}
 use lib.Arith.{le-zero}
-use borrow.Author.Tests.{not-true, not-false}
 use Rattle.answer.specs.Rules.{compatible_all}
 use Rattle.answer.proofs.Rows.{last_crosses, last_compatible}
 use native.Mathlib.Omega.{arith}
@@ -13,10 +12,10 @@ pub loop-left-init : goal.loop-left-init
 loop-left-init c = (search rules, refl)
 
 pub returns-then-not-compatible : goal.returns-then-not-compatible
-returns-then-not-compatible c = let l = c.loop-left in sym (l.invariant.1 ∙ last_crosses _ _ l.left (omega arith) (sym c.compatible.ensures ∙ not-true _ c.if-not-compatible.true))
+returns-then-not-compatible c = let l = c.loop-left in sym (l.invariant.1 ∙ last_crosses _ _ l.left (omega arith) (sym c.compatible.ensures ∙ c.if-not-compatible.true))
 
 pub loop-left-preserved : goal.loop-left-preserved
-loop-left-preserved c = let l = c.loop-left in (omega arith, l.invariant.1 ∙ last_compatible _ _ l.left (omega arith) (sym c.compatible.ensures ∙ not-false _ c.if-not-compatible.false))
+loop-left-preserved c = let l = c.loop-left in (omega arith, l.invariant.1 ∙ last_compatible _ _ l.left (omega arith) (sym c.compatible.ensures ∙ c.if-not-compatible.false))
 
 pub returns : goal.returns
 unfolding compatible_all

@@ -1,38 +1,26 @@
 -- `answer::rules::entry_fault` meets its contract: each return is a row of the flips' table.
-use borrow.Author.Rules.{rules}
 use mathlib.Core.Path.{◌≡◌, sym, ◌∙◌}
-use mathlib.Core.Bool.{true}
-use borrow.Author.Tests.{not-true, not-false}
+use mathlib.Core.Bool.{Bool}
+use Prim.Native.Nat.{ℕ}
 use Rattle.taxa.specs.Sets.{within, all}
 use Rattle.answer.proofs.Rows.{raised_unknown, lowered_unknown, flips_broken, flips_kept}
 use Rattle.answer.proofs.rules.entry_fault.Goals as goal
 
-raised_known : (c : goal.Else-not-subset) → within c.args.raised (all c.args.n) ≡ true
-raised_known c =
-    let raised_test : within c.args.raised (all c.args.n) ≡ c.subset.result =
-        rw (← c.all-known.ensures) (sym c.subset.ensures) in
-    raised_test ∙ not-false _ c.if-not-subset.false
-
-lowered_known : (c : goal.Else-not-subset-2) → within c.args.lowered (all c.args.n) ≡ true
-lowered_known c =
-    let lowered_test : within c.args.lowered (all c.args.n) ≡ c.subset-2.result =
-        rw (← c.all-known.ensures) (sym c.subset-2.ensures) in
-    lowered_test ∙ not-false _ c.if-not-subset-2.false
+-- What `subset` said of the set of all taxa.
+tested : (set known n : ℕ) (r b : Bool) → known ≡ all n → r ≡ within set known → r ≡ b → within set (all n) ≡ b
+tested set known n r b is said test = rw (← is) (sym said ∙ test)
 
 pub returns-then-not-subset : goal.returns-then-not-subset
-returns-then-not-subset c =
-    let raised_test : within c.args.raised (all c.args.n) ≡ c.subset.result =
-        rw (← c.all-known.ensures) (sym c.subset.ensures) in
-    raised_unknown _ _ _ _ _ _ (raised_test ∙ not-true _ c.if-not-subset.true)
+returns-then-not-subset c = raised_unknown _ _ _ _ _ _ (tested _ _ _ _ _ c.all-known.ensures c.subset.ensures c.if-not-subset.true)
 
 pub returns-then-not-subset-2 : goal.returns-then-not-subset-2
 returns-then-not-subset-2 c =
-    let lowered_test : within c.args.lowered (all c.args.n) ≡ c.subset-2.result =
-        rw (← c.all-known.ensures) (sym c.subset-2.ensures) in
-    lowered_unknown _ _ _ _ _ _ (raised_known c.before.before) (lowered_test ∙ not-true _ c.if-not-subset-2.true)
+    lowered_unknown _ _ _ _ _ _ (tested _ _ _ _ _ c.all-known.ensures c.subset.ensures c.if-not-subset.false) (tested _ _ _ _ _ c.all-known.ensures c.subset-2.ensures c.if-not-subset-2.true)
 
 pub returns-then-not-kept : goal.returns-then-not-kept
-returns-then-not-kept c = flips_broken _ _ _ _ _ _ (raised_known c.before.before.before.before) (lowered_known c.before.before) (sym c.kept.ensures ∙ not-true _ c.if-not-kept.true)
+returns-then-not-kept c =
+    flips_broken _ _ _ _ _ _ (tested _ _ _ _ _ c.all-known.ensures c.subset.ensures c.if-not-subset.false) (tested _ _ _ _ _ c.all-known.ensures c.subset-2.ensures c.if-not-subset-2.false) (sym c.kept.ensures ∙ c.if-not-kept.true)
 
 pub returns : goal.returns
-returns c = flips_kept _ _ _ _ _ _ (raised_known c.before.before.before.before) (lowered_known c.before.before) (sym c.kept.ensures ∙ not-false _ c.if-not-kept.false)
+returns c =
+    flips_kept _ _ _ _ _ _ (tested _ _ _ _ _ c.all-known.ensures c.subset.ensures c.if-not-subset.false) (tested _ _ _ _ _ c.all-known.ensures c.subset-2.ensures c.if-not-subset-2.false) (sym c.kept.ensures ∙ c.if-not-kept.false)

@@ -8,7 +8,7 @@ use native.Mathlib.Omega.{arith}
 use Rattle.answer.proofs.writer.put_answer.Goals as goal
 
 pub put_end-requires : goal.put_end-requires
-put_end-requires c = omega (arith, c.requires.0.1, c.put_head.auto, c.put_groups.auto, c.put_flips.auto)
+put_end-requires c = omega (arith, c.requires.groups_bound.1, c.put_head.auto, c.put_groups.auto, c.put_flips.auto)
 
 pub returns : goal.returns
 returns c =

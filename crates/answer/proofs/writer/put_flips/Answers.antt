@@ -16,7 +16,7 @@ unfolding run
 loop-j-init c = (search rules, search rules, search rules, nothing 0 _)
 
 pub overflow_cast-columns : goal.overflow_cast-columns
-overflow_cast-columns c = omega (arith, c.requires.1.1 c.loop-j.j (omega arith))
+overflow_cast-columns c = omega (arith, c.requires.by_index c.loop-j.j (omega arith))
 
 pub loop-j-preserved : goal.loop-j-preserved
 loop-j-preserved c =

@@ -1,5 +1,4 @@
 -- `matrix::writer::put_column` meets its contract: the opening and three numbers, one after the other.
-use borrow.Author.Rules.{rules}
 use native.Mathlib.Omega.{arith}
 use lib.ListN.{length-append}
 use Rattle.record.proofs.Numbers.{length_bytes}

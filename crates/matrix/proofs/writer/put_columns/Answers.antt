@@ -2,12 +2,9 @@
 use borrow.Author.Rules.{rules}
 use native.Mathlib.Omega.{arith}
 use mathlib.Core.Path.{◌≡◌}
-use Prim.Native.Nat.{◌≤◌, ◌*◌, ◌-◌}
-use lib.ListN.{length}
-use Rattle.record.specs.Bytes.{over}
 use Rattle.record.proofs.Over.{nothing, next}
 use Rattle.matrix.specs.Matrix.{columns_bytes, weighing_one}
-use Rattle.matrix.proofs.Writing.{first_columns, length_first_bytes, first_next}
+use Rattle.matrix.proofs.Writing.{length_first_bytes, first_next}
 use Rattle.matrix.proofs.writer.put_columns.Goals as goal
 
 pub loop-i-init : goal.loop-i-init

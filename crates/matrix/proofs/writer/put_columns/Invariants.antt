@@ -1,13 +1,10 @@
 -- `matrix::writer::put_columns` meets its contract. The invariant: the columns written so far stand at the front.
-use borrow.Author.Rules.{rules}
-use native.Mathlib.Omega.{arith}
 use mathlib.Core.Path.{◌≡◌}
-use Prim.Native.Nat.{◌≤◌, ◌*◌, ◌-◌}
+use Prim.Native.Nat.{◌≤◌, ◌-◌}
 use lib.ListN.{length}
 use Rattle.record.specs.Bytes.{over}
-use Rattle.record.proofs.Over.{nothing, next}
-use Rattle.matrix.specs.Matrix.{columns_bytes, weighing_one}
-use Rattle.matrix.proofs.Writing.{first_columns, length_first_bytes, first_next}
+use Rattle.matrix.specs.Matrix.{columns_bytes}
+use Rattle.matrix.proofs.Writing.{first_columns}
 use Rattle.matrix.proofs.writer.put_columns.Given as goal
 
 abbrev pub invariant-loop-i : goal.invariant-loop-i

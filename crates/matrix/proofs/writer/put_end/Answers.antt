@@ -1,5 +1,4 @@
 -- `matrix::writer::put_end` meets its contract: the record has no payload.
-use borrow.Author.Rules.{rules}
 use Rattle.record.proofs.Files.{opening_only}
 use Rattle.matrix.proofs.writer.put_end.Goals as goal
 

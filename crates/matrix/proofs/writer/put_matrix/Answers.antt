@@ -1,5 +1,4 @@
 -- `matrix::writer::put_matrix` meets its contract: each record is written where the one before it ends.
-use borrow.Author.Rules.{rules}
 use native.Mathlib.Omega.{arith}
 use lib.ListN.{length-append}
 use Rattle.record.proofs.Over.{next}

@@ -1,5 +1,4 @@
 -- `record::Cursor::finds` meets its contract: too few bytes start no record, and else the kind says it.
-use borrow.Author.Rules.{rules}
 use native.Mathlib.Omega.{arith}
 use Rattle.record.proofs.Steps.{finds_none, finds_kind}
 use Rattle.record.proofs.Cursor.finds.Goals as goal

@@ -1,5 +1,4 @@
 -- `record::Cursor::nothing_after` meets its contract, by the two laws of `nothing_after`.
-use borrow.Author.Rules.{rules}
 use native.Mathlib.Omega.{arith}
 use Rattle.record.proofs.Steps as steps
 use Rattle.record.proofs.Cursor.nothing_after.Goals as goal

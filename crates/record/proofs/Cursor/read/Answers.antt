@@ -1,5 +1,4 @@
 -- `record::Cursor::read` meets its contract: the tests that led to each return are the premises of a law of `step`.
-use borrow.Author.Rules.{rules}
 use native.Mathlib.Omega.{arith}
 use Rattle.record.proofs.Steps as steps
 use Rattle.record.proofs.Cursor.read.Goals as goal

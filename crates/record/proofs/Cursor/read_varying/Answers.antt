@@ -1,5 +1,4 @@
 -- `record::Cursor::read_varying` meets its contract: it reads the record that is expected where the length stands, once a length can stand there.
-use borrow.Author.Rules.{rules}
 use native.Mathlib.Omega.{arith}
 use Rattle.record.specs.Records.{varying_step}
 use Rattle.record.proofs.Steps.{no_opening}

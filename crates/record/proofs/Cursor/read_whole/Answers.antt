@@ -1,8 +1,5 @@
 -- `record::Cursor::read_whole` meets its contract: length and kind are compared as one number.
-use Prim.Native.Nat.{ℕ, ◌<◌}
 use native.Mathlib.Omega.{arith}
-use lib.ListN.{length, get_or}
-use mathlib.Core.List.{List}
 use Rattle.record.specs.Bytes.{File}
 use Rattle.record.proofs.Steps as steps
 use Rattle.record.proofs.Cursor.read_whole.Goals as goal

@@ -1,5 +1,4 @@
 -- `record::Passed::refusal` meets its contract: the arm says which variant it is.
-use borrow.Author.Rules.{rules}
 use Rattle.record.proofs.Passed.refusal.Goals as goal
 
 pub returns-in-At : goal.returns-in-At

@@ -1,5 +1,4 @@
 -- `record::Step::refusal` meets its contract: the arm says which variant it is.
-use borrow.Author.Rules.{rules}
 use Rattle.record.proofs.Step.refusal.Goals as goal
 
 pub returns-in-Payload : goal.returns-in-Payload

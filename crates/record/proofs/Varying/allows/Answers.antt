@@ -1,5 +1,4 @@
 -- `record::Varying::allows` meets its contract: up to the least only the least is allowed, and above it the other two tests decide.
-use borrow.Author.Rules.{rules}
 use native.Mathlib.Omega.{arith}
 use Rattle.record.proofs.Lengths.{up_to_least, above_least}
 use Rattle.record.proofs.Varying.allows.Goals as goal

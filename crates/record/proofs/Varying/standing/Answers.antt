@@ -1,5 +1,4 @@
 -- `record::Varying::standing` meets its contract, by the test that led to each return.
-use borrow.Author.Rules.{rules}
 use mathlib.Core.Path.{sym, ◌∙◌}
 use Rattle.record.proofs.Varying.standing.Goals as goal
 

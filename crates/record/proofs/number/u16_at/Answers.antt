@@ -1,5 +1,4 @@
 -- `record::number::u16_at` meets its contract: two bytes, as `number_at 2` spells them.
-use borrow.Author.Rules.{rules}
 use native.Mathlib.Omega.{arith}
 use Rattle.record.specs.Bytes.{number_at}
 use Rattle.record.proofs.number.u16_at.Goals as goal

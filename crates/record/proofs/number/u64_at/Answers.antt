@@ -1,5 +1,4 @@
 -- `record::number::u64_at` meets its contract: two numbers of half the width.
-use borrow.Author.Rules.{rules}
 use native.Mathlib.Omega.{arith}
 use Rattle.record.proofs.Numbers.{at_add}
 use Rattle.record.proofs.number.u64_at.Goals as goal

@@ -1,5 +1,4 @@
 -- `record::writer::put16` meets its contract: two stores.
-use borrow.Author.Rules.{rules}
 use native.Mathlib.Omega.{arith}
 use native.Mathlib.Nat.{mod-eq_of_lt}
 use Prim.Native.Nat.{◌%◌, ◌/◌}

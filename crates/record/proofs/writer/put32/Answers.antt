@@ -1,5 +1,4 @@
 -- `record::writer::put32` meets its contract: two numbers of half the width, one after the other.
-use borrow.Author.Rules.{rules}
 use native.Mathlib.Omega.{arith}
 use Rattle.record.proofs.Numbers.{bytes_add, length_bytes}
 use Rattle.record.proofs.Over.{next}

@@ -1,5 +1,4 @@
 -- `record::writer::put_opening` meets its contract: two numbers, one after the other.
-use borrow.Author.Rules.{rules}
 use native.Mathlib.Omega.{arith}
 use Rattle.record.specs.Records.{opening_of}
 use Rattle.record.proofs.Numbers.{length_bytes}

@@ -1,31 +1,28 @@
 -- `net::hop` meets its contract: it is one `send` between the places of the two pairs.
-use Prim.Native.Nat.{ℕ}
+use Prim.Native.Nat.{ℕ, ◌+◌}
 use mathlib.Core.Path.{◌≡◌, ◌∙◌}
-use borrow.Author.Rules.{rules}
-use Rattle.taxa.specs.Sets.{sizes}
+use Rattle.taxa.specs.Sets.{count, sizes}
 use Rattle.search.specs.Workspace.{slot}
+use Rattle.search.specs.inner.Places.{IsColumn}
 use Rattle.search.specs.Search.{nth}
 use Rattle.search.proofs.Workspace.{slot_lt, column_place, can_send, hopped, sent_kept}
 use Rattle.search.proofs.net.hop.Goals as goal
 
--- The two places.
-from : (c : goal.After-slot-a) → let a = c.args in c.slot-a.result ≡ slot (nth a.joined.now) a.c a.i
-from c = c.slot-a.ensures ∙ column_place c.args.i c.column_at-column.ensures.0
-
-to : (c : goal.After-send-arg-1) → let a = c.args in c.slot-b.result ≡ slot (nth a.joined.now) a.c a.j
-to c = c.slot-b.ensures ∙ column_place c.args.j c.column_at-column.ensures.0
+-- A place.
+place : {row : ℕ → ℕ} {c joined offset at : ℕ} (i : ℕ) → at ≡ offset + count i joined → IsColumn row c joined offset → at ≡ slot row c i
+place i q k = q ∙ column_place i k
 
 pub send-requires : goal.send-requires
 send-requires c =
     let a = c.args in
-    rw (from c.before.before, to c) (can_send a.ws.now a.joined.now a.offsets.now a.c a.i a.j a.d c.requires)
+    rw (place a.i c.slot-a.ensures c.column_at-column.ensures.0, place a.j c.slot-b.ensures c.column_at-column.ensures.0) (can_send a.ws.now a.joined.now a.offsets.now a.c a.i a.j a.d c.requires)
 
 pub returns : goal.returns
 returns c =
     let p = c.requires in
     let a = c.args in
     let row = nth a.joined.now in
-    let e = rw (from c.before.before.before.before, to c.before.before) at c.send.ensures in
+    let e = rw (place a.i c.slot-a.ensures c.column_at-column.ensures.0, place a.j c.slot-b.ensures c.column_at-column.ensures.0) at c.send.ensures in
     rw e (
       hopped a.ws.now a.joined.now a.offsets.now a.c a.i a.j a.d p,
       λ m b.

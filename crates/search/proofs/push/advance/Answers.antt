@@ -1,87 +1,69 @@
 -- `push::advance` meets its contract. The invariant: the path from t back to j has been pushed.
-use borrow.Author.Rules.{rules}
-use borrow.Author.Tests.{not-true, not-false}
 use native.Mathlib.Omega.{arith}
-use mathlib.Core.Bool.{true}
-use mathlib.Core.Path.{◌≡◌, sym, ◌∙◌}
-use Prim.Native.Nat.{◌+◌, ◌*◌, ◌<◌}
-use Rattle.taxa.specs.Sets.{has, sizes}
+use mathlib.Core.List.{List}
+use lib.IntN.{ℤ}
+use mathlib.Core.Path.{sym, ◌∙◌}
+use Prim.Native.Nat.{ℕ, ◌+◌, ◌<◌}
+use Rattle.taxa.specs.Sets.{sizes}
 use Rattle.search.specs.Search.{nth}
-use Rattle.search.specs.inner.Flows.{Advanced}
-use Rattle.search.specs.inner.Reaching.{width_of, turn_of}
+use Rattle.search.specs.inner.Flows.{Flowing, Advanced}
+use Rattle.search.specs.inner.Reaching.{width_of}
 use Rattle.search.proofs.Workspace.{kept_none}
-use Rattle.search.proofs.Flows.{Under, under_start, under_low, not_root, is_root, under_via, under_turn, can_hop, under_step, stayed, went, size_small}
+use Rattle.search.proofs.Flows.{under_start, under_low, not_root, is_root, under_via, under_turn, can_hop, under_step, stayed, went, size_small}
 use Rattle.search.proofs.push.advance.Goals as goal
 
 -- t is one of 64 taxa.
-t_low : (c : goal.After-shared_slice_known-1) → c.args.t < 64
-t_low c = omega (arith, c.requires.0.sink, c.requires.0.ready.net.taxa)
-
-reached : (c : goal.Else-not-contains) → has c.reach-met.result c.args.t ≡ true
-reached c = sym c.contains.ensures ∙ not-false c.contains.result c.if-not-contains.false
-
--- The loop ends at a source.
-ends : (c : goal.After-loop-j) → has c.args.sources c.loop-j.j ≡ true
-ends c = is_root c.loop-j.invariant (omega arith)
-
--- All of the path has been pushed.
-pushed : (c : goal.After-loop-j) →
-    let a = c.args in
-    let r = c.reach-met in
-    Advanced a.weights.now a.planes.now a.joined.now a.limits.now a.offsets.now a.n a.m c.loop-j.ws c.loop-j.used a.sources a.t a.size
-    (a.size + width_of r.new.1.1.1.1.1.1.1.1.1.0 a.t) r.result
-pushed c =
-    went c.loop-j.invariant (ends c) (reached c.before.before.before.before.before.before) (c.reach-met.ensures.0.tree.link c.args.t (reached c.before.before.before.before.before.before) c.requires.0.apart).some
+t_low : {W P J L F : List ℕ} {n m : ℕ} {ws : List ℤ} {U : List ℕ} {X t k : ℕ} → Flowing W P J L F n m ws U X t k → t < 64
+t_low f = omega (arith, f.sink, f.ready.net.taxa)
 
 pub overflow_cast-t : goal.overflow_cast-t
-overflow_cast-t c = omega (arith, t_low c)
+overflow_cast-t c = omega (arith, t_low c.requires.0)
 
 pub single-goal-requires : goal.single-goal-requires
-single-goal-requires c = omega (arith, t_low c)
+single-goal-requires c = omega (arith, t_low c.requires.0)
 
 pub overflow_mul-t : goal.overflow_mul-t
-overflow_mul-t c = omega (arith, t_low c.before)
+overflow_mul-t c = omega (arith, t_low c.requires.0)
 
 pub overflow_add-t : goal.overflow_add-t
-overflow_add-t c = omega (arith, t_low c.before)
+overflow_add-t c = omega (arith, t_low c.requires.0)
 
 pub offset_bounds-tree-t : goal.offset_bounds-tree-t
-offset_bounds-tree-t c = omega (arith, t_low c.before)
+offset_bounds-tree-t c = omega (arith, t_low c.requires.0)
 
 pub bounds-tree-t : goal.bounds-tree-t
-bounds-tree-t c = omega (arith, t_low c.before.before)
+bounds-tree-t c = omega (arith, t_low c.requires.0)
 
 pub reach-met-requires : goal.reach-met-requires
 reach-met-requires c = let p = c.requires in (p.0.ready, p.1, p.0.sources)
 
 pub overflow_cast-t-2 : goal.overflow_cast-t-2
-overflow_cast-t-2 c = omega (arith, t_low c.before.before.before.before.before.before)
+overflow_cast-t-2 c = omega (arith, t_low c.requires.0)
 
 pub contains-requires : goal.contains-requires
-contains-requires c = omega (arith, t_low c.before.before.before.before.before.before)
+contains-requires c = omega (arith, t_low c.requires.0)
 
 pub returns-then-not-contains : goal.returns-then-not-contains
-returns-then-not-contains c =
-    (
-      stayed c.requires.0 c.reach-met.ensures.0 c.single-goal.ensures (sym c.contains.ensures ∙ not-true c.contains.result c.if-not-contains.true),
-      kept_none (sizes c.args.m (nth c.args.joined.now)) c.args.ws.now,
-      c.reach-met.ensures.1,
-    )
+returns-then-not-contains c = (
+  stayed c.requires.0 c.reach-met.ensures.0 c.single-goal.ensures (sym c.contains.ensures ∙ c.if-not-contains.true),
+  kept_none (sizes c.args.m (nth c.args.joined.now)) c.args.ws.now,
+  c.reach-met.ensures.1,
+)
 
 pub overflow_mul-d : goal.overflow_mul-d
-overflow_mul-d c = omega (arith, t_low c.before.before.before.before.before.before.before.before)
+overflow_mul-d c = omega (arith, t_low c.requires.0)
 
 pub overflow_add-d : goal.overflow_add-d
-overflow_add-d c = omega (arith, t_low c.before.before.before.before.before.before.before.before)
+overflow_add-d c = omega (arith, t_low c.requires.0)
 
 pub offset_bounds-tree-t-2 : goal.offset_bounds-tree-t-2
-offset_bounds-tree-t-2 c = omega (arith, t_low c.before.before.before.before.before.before.before.before)
+offset_bounds-tree-t-2 c = omega (arith, t_low c.requires.0)
 
 pub bounds-tree-t-2 : goal.bounds-tree-t-2
-bounds-tree-t-2 c = omega (arith, t_low c.before.before.before.before.before.before.before.before.before)
+bounds-tree-t-2 c = omega (arith, t_low c.requires.0)
 
 pub loop-j-init : goal.loop-j-init
-loop-j-init c = under_start c.requires.0 c.reach-met.ensures.0 (reached c.before.before) (omega arith)
+loop-j-init c = under_start c.requires.0 c.reach-met.ensures.0 (sym c.contains.ensures ∙ c.if-not-contains.false) (omega arith)
 
 pub overflow_mul-j : goal.overflow_mul-j
 overflow_mul-j c = omega (arith, under_low c.loop-j.invariant)
@@ -130,16 +112,32 @@ pub loop-j-preserved : goal.loop-j-preserved
 loop-j-preserved c =
     let u = c.loop-j.invariant in
     let index = c.index-i.ensures in
-    let h = rw (index, c.index-c.ensures) c.before.before.before.before.before.before.before.before c.step.ensures in
+    let h = rw (index, c.index-c.ensures) at c.step.ensures in
     let a = c.args in
     let root = not_root u c.loop-j-test.true in
     rw index (under_step u root (h.0 a.m) (h.1 a.m (under_via u root)) h.2)
 
 pub overflow_add-result : goal.overflow_add-result
-overflow_add-result c = omega (arith, size_small (pushed c).stage.flowing)
+overflow_add-result c =
+    let a = c.args in
+    let r = c.reach-met in
+    let met = sym c.contains.ensures ∙ c.if-not-contains.false in
+    -- All of the path has been pushed: the loop ends at a source.
+    let pushed : Advanced a.weights.now a.planes.now a.joined.now a.limits.now a.offsets.now a.n a.m c.loop-j.ws c.loop-j.used a.sources a.t a.size
+    (a.size + width_of r.new.tree a.t) r.result =
+    went c.loop-j.invariant (is_root c.loop-j.invariant (omega arith)) met (r.ensures.0.tree.link a.t met c.requires.0.apart).some in
+    omega (arith, size_small pushed.stage.flowing)
 
 pub shape_of-ws : goal.shape_of-ws
 shape_of-ws c = c.loop-j.invariant.kept.long
 
 pub returns : goal.returns
-returns c = (pushed c, c.loop-j.invariant.kept, c.reach-met.ensures.1)
+returns c =
+    let a = c.args in
+    let r = c.reach-met in
+    let met = sym c.contains.ensures ∙ c.if-not-contains.false in
+    -- All of the path has been pushed: the loop ends at a source.
+    let pushed : Advanced a.weights.now a.planes.now a.joined.now a.limits.now a.offsets.now a.n a.m c.loop-j.ws c.loop-j.used a.sources a.t a.size
+    (a.size + width_of r.new.tree a.t) r.result =
+    went c.loop-j.invariant (is_root c.loop-j.invariant (omega arith)) met (r.ensures.0.tree.link a.t met c.requires.0.apart).some in
+    (pushed, c.loop-j.invariant.kept, c.reach-met.ensures.1)

@@ -1,27 +1,19 @@
 -- `push::largest` meets its contract. The invariant: a flow stands in the workspace, and the taxa reached are all, if t is none of them.
-use borrow.Author.Rules.{rules}
 use native.Mathlib.Omega.{arith}
 use mathlib.Core.Bool.{true, true≢false}
 use mathlib.Core.Path.{◌≡◌, sym, ap, ◌∙◌}
-use Prim.Native.Nat.{ℕ}
-use lib.ListN.{length}
+use Prim.Native.Nat.{ℕ, ◌^◌}
 use Rattle.taxa.specs.Sets.{has, sizes}
 use Rattle.taxa.proofs.Members.{in_pow}
 use Rattle.search.specs.Workspace.{Kept}
 use Rattle.search.specs.Search.{nth}
-use Rattle.search.specs.inner.Flows.{Stage}
 use Rattle.search.proofs.Workspace.{kept_none, kept_then, cleared_kept}
-use Rattle.search.proofs.Flows.{no_flow, size_small, rest_of, falls}
+use Rattle.search.proofs.Flows.{no_flow, size_small, falls}
 use Rattle.search.proofs.push.largest.Goals as goal
 
 -- t counts as reached.
-reached : (c : goal.After-single) → has c.single.result c.args.t ≡ true
-reached c = let t = c.args.t in ap (λ (x : ℕ). has x t) c.single.ensures ∙ (in_pow t).is
-
-kept : (c : goal.At-loop-ws) → let a = c.args in Kept (sizes a.m (nth a.joined.now)) a.ws.now c.loop-ws.ws
-kept c =
-    let clear = rw (c.requires.0.offsets.is c.args.m (omega arith)) at c.clear_places.ensures in
-    kept_then (cleared_kept c.args.ws.now clear c.requires.1) (kept_then c.direct_hops-size.ensures.1 c.loop-ws.invariant.1)
+reached : {x : ℕ} (t : ℕ) → x ≡ 2 ^ t → has x t ≡ true
+reached t e = ap (λ (x : ℕ). has x t) e ∙ (in_pow t).is
 
 pub unused-requires : goal.unused-requires
 unused-requires c = let p = c.requires in (p.0.columns, p.5.counts)
@@ -38,7 +30,7 @@ pub loop-ws-init : goal.loop-ws-init
 loop-ws-init c =
     let a = c.args in
     let f = c.direct_hops-size in
-    (record { flowing = f.ensures.0; side = λ q. absurd (true≢false (sym (reached c) ∙ q)) }, kept_none (sizes a.m (nth a.joined.now)) f.new.1.1.1.1.1.1.1.0, c.requires.5.tree)
+    (record { flowing = f.ensures.0; side = λ q. absurd (true≢false (sym (reached a.t c.single.ensures) ∙ q)) }, kept_none (sizes a.m (nth a.joined.now)) f.new.ws, c.requires.5.tree)
 
 pub grows-requires : goal.grows-requires
 grows-requires c = let p = c.requires in omega (arith, p.3, p.0.taxa)
@@ -58,13 +50,22 @@ pub loop-ws-preserved : goal.loop-ws-preserved
 loop-ws-preserved c = let r = c.advance-cut.ensures in (r.0.stage, kept_then c.loop-ws.invariant.1 r.1, r.2)
 
 pub shape_of-ws : goal.shape_of-ws
-shape_of-ws c = (kept c.before.before).long
+shape_of-ws c =
+    let a = c.args in
+    let clear = rw (c.requires.0.offsets.is a.m (omega arith)) at c.clear_places.ensures in
+    let kept : Kept (sizes a.m (nth a.joined.now)) a.ws.now c.loop-ws.ws =
+    kept_then (cleared_kept a.ws.now clear c.requires.1) (kept_then c.direct_hops-size.ensures.1 c.loop-ws.invariant.1) in
+    kept.long
 
 pub returns : goal.returns
 returns c =
+    let a = c.args in
+    let clear = rw (c.requires.0.offsets.is a.m (omega arith)) at c.clear_places.ensures in
+    let kept : Kept (sizes a.m (nth a.joined.now)) a.ws.now c.loop-ws.ws =
+    kept_then (cleared_kept a.ws.now clear c.requires.1) (kept_then c.direct_hops-size.ensures.1 c.loop-ws.invariant.1) in
     let v = c.loop-ws.invariant in
     let f = v.0.flowing in (
       record { flow = f.flow; small = size_small f; side = v.0.side; stops = c.grows.ensures.1 c.loop-ws-test.false },
-      kept c.before.before,
+      kept,
       record { counts = f.ready.counts; tree = v.2 },
     )

@@ -1,26 +1,18 @@
 -- `ties::bound_of` meets its contract. The invariant: to part one taxon alone costs less than the bound.
-use borrow.Author.Rules.{rules}
 use native.Mathlib.Omega.{arith}
-use mathlib.Core.Path.{◌≡◌, sym, ap, ap₂, ◌∙◌}
+use mathlib.Core.Path.{◌≡◌, sym, ap, ◌∙◌}
+use mathlib.Core.List.{List}
 use Prim.Native.Nat.{ℕ, ◌+◌, ◌*◌, ◌^◌, ◌≤◌}
-use Rattle.taxa.specs.Sets.{◌∖◌}
+use Rattle.taxa.specs.Sets.{◌∖◌, multiplicity_in}
 use Rattle.taxa.proofs.Counts.{count_pos}
 use Rattle.search.specs.Search.{nth}
 use Rattle.search.specs.inner.Network.{flow_most, weight_most}
-use Rattle.search.proofs.Bonds.{times_small, Binding, binding_start, binding_one}
+use Rattle.search.proofs.Bonds.{times_small, binding_start, binding_one}
 use Rattle.search.proofs.ties.bound_of.Goals as goal
 
--- What joins it, and that times what it stands for.
-weight_small : (c : goal.After-lowest-i) →
-    let a = c.args in
-    nth a.limits.now (256 + c.lowest-i.result) + nth a.own.now c.lowest-i.result ≤ weight_most
-weight_small c = c.requires.4 c.lowest-i.result (c.loop-left.invariant.inside c.lowest-i.result c.lowest-i.ensures.2.is).0
-
-product : (c : goal.After-multiplicity) →
-    let a = c.args in
-    (nth a.limits.now (256 + c.lowest-i.result) + nth a.own.now c.lowest-i.result) * c.multiplicity.result ≤ flow_most
-product c =
-    rw c.multiplicity.ensures.0 (times_small c.args.planes.now c.lowest-i.result (weight_small c.before.before.before.before.before))
+-- What joins it, times what it stands for.
+product : (P : List ℕ) (i : ℕ) {w k : ℕ} → k ≡ multiplicity_in P i → w ≤ weight_most → w * k ≤ flow_most
+product P i q h = rw q (times_small P i h)
 
 pub loop-left-init : goal.loop-left-init
 loop-left-init c =
@@ -55,16 +47,21 @@ pub bounds-own-u : goal.bounds-own-u
 bounds-own-u c = omega (arith, c.lowest-i.ensures.1)
 
 pub overflow_add-weight-in-loop-left : goal.overflow_add-weight-in-loop-left
-overflow_add-weight-in-loop-left c = omega (arith, weight_small c.before.before.before.before)
+overflow_add-weight-in-loop-left c =
+    omega (arith, c.requires.4 c.lowest-i.result (c.loop-left.invariant.inside c.lowest-i.result c.lowest-i.ensures.2.is).0)
 
 pub multiplicity-requires : goal.multiplicity-requires
 multiplicity-requires c = (c.lowest-i.ensures.1, c.requires.0)
 
 pub overflow_mul-weight : goal.overflow_mul-weight
-overflow_mul-weight c = omega (arith, product c)
+overflow_mul-weight c =
+    let i = c.lowest-i.result in
+    omega (arith, product c.args.planes.now i c.multiplicity.ensures.0 (c.requires.4 i (c.loop-left.invariant.inside i c.lowest-i.ensures.2.is).0))
 
 pub overflow_add-weight-in-loop-left-2 : goal.overflow_add-weight-in-loop-left-2
-overflow_add-weight-in-loop-left-2 c = omega (arith, product c)
+overflow_add-weight-in-loop-left-2 c =
+    let i = c.lowest-i.result in
+    omega (arith, product c.args.planes.now i c.multiplicity.ensures.0 (c.requires.4 i (c.loop-left.invariant.inside i c.lowest-i.ensures.2.is).0))
 
 pub rest-left-requires-in-loop-left : goal.rest-left-requires-in-loop-left
 rest-left-requires-in-loop-left c = omega (arith, c.loop-left-test.true)

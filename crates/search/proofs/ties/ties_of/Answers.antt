@@ -1,9 +1,6 @@
 -- `ties::ties_of` meets its contract. The invariant: what the columns passed tie, each at most 65,535.
-use borrow.Author.Rules.{rules}
 use native.Mathlib.Omega.{arith}
 use mathlib.Core.Path.{◌≡◌, refl}
-use Prim.Native.Nat.{◌*◌, ◌-◌, ◌≤◌}
-use Rattle.search.specs.inner.Trying.{Ties, Weighed, Few, SameLimits}
 use Rattle.search.proofs.Bonds.{few_next, few_more, few_none, same_then, ties_start, weighed_start, ties_next, weighed_next}
 use Rattle.search.proofs.ties.ties_of.Goals as goal
 
@@ -26,8 +23,8 @@ tie_column-requires c =
 
 pub loop-c-preserved : goal.loop-c-preserved
 loop-c-preserved c =
-    let v = c.loop-c.inv in
-    let e = rw c.common.ensures c.before.before.before.before.before.before.before.before c.tie_column.ensures in (
+    let v = c.loop-c.invariant in
+    let e = rw c.common.ensures at c.tie_column.ensures in (
       omega arith,
       ties_next (omega arith) e v.1,
       weighed_next (omega arith) e v.2,

@@ -31,4 +31,4 @@ pub returns : goal.returns
 unfolding one_entries
 returns c =
     let e : c.loop-c.c ≡ c.args.m = omega arith in
-    rw (e, c.requires.0) c.before.before.before c.loop-c.invariant.1
+    rw (e, c.requires.0) at c.loop-c.invariant.1

@@ -14,7 +14,7 @@ load-requires c =
 pub returns : goal.returns
 returns c =
     let l = c.load in
-    in_front c.args.m _ l.new.1.0 l.new.1.1.0 l.new.1.1.1.0 _ _ _ l.ensures.0 l.ensures.1
+    in_front c.args.m _ l.new.weights l.new.ones l.new.zeros _ _ _ l.ensures.0 l.ensures.1
     (l.ensures.2 ∙ length-take-le _ _ c.requires.1)
 
 pub slice_bounds-load-end : goal.slice_bounds-load-end

@@ -28,10 +28,10 @@ loop-i-preserved c =
     let l = c.loop-i in
     let a = c.args in
     let next = ordered_size l.i (first_groups a.walked.now a.paid.now a.k) in
-    (search rules, omega (arith, kept.ensures.0), search rules, search rules, rw (ordered_next, ← l.invariant.4) kept.ensures.1)
+    (search rules, omega (arith, kept.ensures.size), search rules, search rules, rw (ordered_next, ← l.invariant.4) kept.ensures.list)
 
 pub returns : goal.returns
 returns c =
     let l = c.loop-i in
     let all : l.i ≡ c.args.n = omega arith in
-    rw (← all) (l.invariant.1, l.invariant.4)
+    rw (← all) (record { size = l.invariant.1; list = l.invariant.4 })
