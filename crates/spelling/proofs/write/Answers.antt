@@ -1,5 +1,4 @@
 -- `spelling::write` meets its contract: the answer's refusal, the list's, or what two files that were read come to.
-use borrow.Author.Rules.{rules}
 use mathlib.Core.Path.{◌≡◌, sym, ap, ◌∙◌}
 use mathlib.Core.List.{List}
 use Prim.Native.Nat.{ℕ}
