@@ -2,7 +2,6 @@
 use borrow.Author.Rules.{rules}
 use native.Mathlib.Omega.{arith}
 use mathlib.Core.Path.{◌≡◌, refl, sym, ap, ◌∙◌}
-use Prim.Native.Nat.{◌-◌}
 use Rattle.taxa.specs.Sets.{◌∩◌}
 use Rattle.method.specs.Split.{Column}
 use Rattle.method.specs.Tree.{column, flip_list}
