@@ -49,78 +49,101 @@ take_file() { # WORD...
 
 clock() { printf '%d:%02d' $(($1 / 60)) $(($1 % 60)); }
 
-# How far the run is, told from the files that rt keeps of each crate; `told` holds the crates that ended.
-progress() {
-    local crate last now= clock
+# How far the run is, told from what rt says, in the file `said`: a crate that it begins is named there, and those before it have ended. `told` holds how
+# many of them were told of. A crate that was proved before is passed over.
+progress() { # ENDED, 1 once rt has ended well
+    local begun place crate now= done=0 clock
     clock=$(clock $((SECONDS - began)))
-    for crate in "${wanted[@]}"; do
-        [ -z "${told[$crate]:-}" ] && [ -e "$top/target/log/$crate.out" ] || continue
-        last=$(tail -n 1 "$top/target/log/$crate.out")
-        case $last in
-        "rt: $crate proved (unchanged "*) told[$crate]=unchanged ;;
-        "rt: $crate "*)
-            told[$crate]=proved
-            [ -t 2 ] || echo "${last#rt: }: crate ${#told[@]} of ${#wanted[@]}, $clock so far" >&2
-            ;;
-        *) now+=${now:+ and }$crate ;;
-        esac
+    begun=$(sed -n 's/^rt: chose --jobs [0-9]* for //p' "$said" | tail -n 1)
+    for place in "${!wanted[@]}"; do
+        [ "${wanted[place]}" != "$begun" ] || done=$place now=$begun
     done
-    [ ! -t 2 ] || [ -z "$now" ] || printf '\r\033[Kproving %s: %d of %d crates done, %s so far' "$now" ${#told[@]} ${#wanted[@]} "$clock" >&2
+    [ "$1" != 1 ] || done=${#wanted[@]} now=
+    while [ "$told" -lt "$done" ]; do
+        crate=${wanted[told]}
+        told=$((told + 1))
+        [ -t 2 ] || ! grep -q "^rt: chose --jobs [0-9]* for $crate\$" "$said" || echo "$crate proved: crate $told of ${#wanted[@]}, $clock so far" >&2
+    done
+    [ ! -t 2 ] || [ -z "$now" ] || printf '\r\033[Kproving %s: %d of %d crates done, %s so far' "$now" "$done" ${#wanted[@]} "$clock" >&2
 }
 
-# rt may not run twice at once in a repository. The lock is descriptor 9.
+# Runs of these scripts in one repository wait for each other. The lock is descriptor 9.
 lock() {
-    { mkdir -p "$top/target/log" && exec 9>"$top/target/prove.lock"; } 2>/dev/null ||
+    { mkdir -p "$top/target/bin" "$top/target/staticlib" "$top/target/sum" && exec 9>"$top/target/prove.lock"; } 2>/dev/null ||
         stop 3 "$top/target cannot be written, and what is proved is kept there"
     flock -n 9 || { echo "$name: another run proves here; this one waits for it" >&2 && flock 9; }
 }
 
-# Runs rt on a crate, beside which progress is told. What rt prints goes to a file, which is named when something fails.
-prove() { # CRATE
-    local said=$top/target/prove-$1.log began=$SECONDS job status=0 crate wanted why
-    local -A told=()
-    mapfile -t wanted < <("$top/scripts/layers" "$1")
+# A sum of all that a crate is made from: the toolchain, and the files of the crate and of those that it rests on.
+sum_of() { # CRATE
+    (
+        cd "$top"
+        rt version
+        for crate in $(scripts/layers "$1"); do
+            find "crates/$crate" -regex '[^/]*/[^/]*/\(src\|specs\|proofs\)/.*' -type f -exec sha256sum {} + 2>/dev/null | sort
+        done
+        cat crates.txt
+    ) | sha256sum
+}
+
+# What stands in target/ is of the crates as they are now. (sum_of reads them anew each time; a change meanwhile is a change for the next run.)
+is_made() { # CRATE SUM FILE
+    [ "$(cat "$top/target/sum/$1" 2>/dev/null)" = "$2" ] && [ -e "$top/target/$3" ]
+}
+
+# Puts what rt made of a crate where the scripts take it from: at once, since a run before may be starting it.
+keep() { # CRATE SUM MADE FILE
+    rm -f "$top/target/sum/$1"
+    cp "$top/crates/$1/out/$3" "$top/target/$4.new" && mv "$top/target/$4.new" "$top/target/$4" && printf '%s\n' "$2" >"$top/target/sum/$1"
+}
+
+# Has rt prove a crate and make its program or library, beside which progress is told. What rt prints goes to a file, which is named when something fails.
+make_of() { # CRATE VERB MADE FILE
+    local said=$top/target/prove-$1.log began=$SECONDS job status=0 wanted told=0 sum why
+    sum=$(sum_of "$1")
+    ! is_made "$1" "$sum" "$4" || return 0
     lock
-    for crate in "${wanted[@]}"; do rm -f "$top/target/log/$crate.out"; done
+    if is_made "$1" "$sum" "$4"; then
+        exec 9>&-
+        return 0
+    fi
+    mapfile -t wanted < <("$top/scripts/layers" "$1")
     # A process group of its own, so that what rt started ends with this script.
     set -m
-    (cd "$top" && exec rt check "$1") </dev/null >"$said" 2>&1 9>&- &
+    (cd "$top/crates/$1" && exec rt "$2") </dev/null >"$said" 2>&1 9>&- &
     job=$!
     set +m
     trap 'kill -- -$job 2>/dev/null; echo >&2; exit 130' INT TERM HUP
     while kill -0 "$job" 2>/dev/null; do
-        progress
+        progress 0
         sleep 0.2
     done
     wait "$job" || status=$?
     trap - INT TERM HUP
-    # Before another run has the lock, which takes rt's files away.
-    progress
-    exec 9>&-
+    [ "$status" != 0 ] || progress 1
     [ ! -t 2 ] || printf '\r\033[K' >&2
-    [ "$status" != 0 ] || return 0
-    why=$(grep -m 1 '^rt: .*\(NOT PROVED\|FAILED\)' "$said" || tail -n 1 "$said")
+    if [ "$status" = 0 ] && keep "$1" "$sum" "$3" "$4"; then
+        exec 9>&-
+        return 0
+    fi
+    exec 9>&-
+    why=$(grep -m 1 '^fn .*: \(not proved\|no proof\)\|^rt: the library .* did not build' "$said" || tail -n 1 "$said")
     stop 3 "$1 could not be proved: $why; the prover's lines are in $said"
 }
 
-# A crate's static library, which rt would prove and make again each time.
-archive() { # CRATE
-    local said=$top/target/prove-$1.log
-    prove "$1"
-    [ ! "$top/target/staticlib/lib$1.a" -nt "$top/target/rlib/$1.rlib" ] || return 0
-    lock
-    (cd "$top" && exec rt staticlib "$1") </dev/null >"$said" 2>&1 9>&- ||
-        stop 3 "the library of $1 could not be made; the prover's lines are in $said"
-    exec 9>&-
-}
+# A program, target/bin/NAME. (`rt run` makes it and runs it, here with nothing to read.)
+prove() { make_of "$1" run "$1" "bin/$1"; }
+
+# The library for C, target/staticlib/libNAME.a.
+archive() { make_of "$1_c" lib "lib$1_c.a" "staticlib/lib$1.a"; }
 
 # ---- printing
 
-# What a program says of a file, of which it reads so many bytes; ERRORS is 1 where what it tells on standard error counts too. It takes what it could
-# not read for the file's end: so the file is read here.
+# What a program says of a file, of which it reads so many bytes; ERRORS is 1 where what it tells on standard error counts too. The file is read here, so
+# that one that breaks off in reading is told by its name.
 said_of() { # PROGRAM WORD MOST [ERRORS]
     local ended
-    head -c "$3" -- "$2" 2>/dev/null | "${run_rattle[@]}" "$top/target/bin/$1" 2>&"${4:-2}"
+    head -c "$3" -- "$2" 2>/dev/null | "$top/target/bin/$1" 2>&"${4:-2}"
     ended=("${PIPESTATUS[@]}")
     [ "${ended[0]}" = 0 ] || stop 1 "$file could not be read"
     [ "${ended[1]}" = 0 ] || stop 1 "the program ended early, with status ${ended[1]}"
@@ -155,7 +178,7 @@ run_sample() { # NAME FILE...
     trap 'rm -rf "$room"' EXIT
     "$cc" "${c_flags[@]}" -I "$top/include" "$top/samples/$1.c" "$top/target/staticlib/libflipcut.a" -o "$room/$1" ||
         stop 3 "samples/$1.c could not be compiled"
-    said=$(${run[@]+"${run[@]}"} "$room/$1" "${@:2}") || status=$?
+    said=$("$room/$1" "${@:2}") || status=$?
     case $status in
     0 | 1) ;;
     2) exit 1 ;; # it told which file it could not read

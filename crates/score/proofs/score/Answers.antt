@@ -1,11 +1,7 @@
 -- `score::score` meets its contract: the matrix's refusal, the answer's, or what two files that were read come to.
-use borrow.Author.Rules.{rules}
-use mathlib.Core.Path.{◌≡◌, sym, ap, ◌∙◌}
+use mathlib.Core.Path.{sym, ap, ◌∙◌}
 use Rattle.record.specs.Records.{passed_refusal}
-use Rattle.record.specs.declared.Passed.TheVariants.{At, Refused}
-use Rattle.matrix.specs.declared.Checked.TheVariants.{Taken}
-use Rattle.matrix.specs.Check.{checked}
-use Rattle.answer.specs.Reading.{file_tests}
+use Rattle.record.specs.declared.Passed.TheVariants.{Refused}
 use Rattle.score.proofs.Scoring.{matrix_refused, answer_refused, both_read}
 use Rattle.score.proofs.score.Goals as goal
 

@@ -2,12 +2,8 @@
 use borrow.Author.Rules.{rules}
 use native.Mathlib.Omega.{arith}
 use mathlib.Core.Path.{◌≡◌, refl}
-use Prim.Native.Nat.{◌-◌, ◌*◌, ◌≤◌}
 use Rattle.taxa.specs.Sum.{sum}
-use Rattle.taxa.specs.Sets.{multiplicity_in}
-use Rattle.matrix.specs.Matrix.{column_in}
-use Rattle.score.specs.Score.{node_for, raises_of, lowers_of}
-use Rattle.score.specs.inner.Light.{column_most}
+use Rattle.score.specs.Score.{raises_of, lowers_of}
 use Rattle.score.proofs.Columns.{raises_next, lowers_next}
 use Rattle.score.proofs.score_columns.Goals as goal
 

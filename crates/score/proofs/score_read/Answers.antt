@@ -1,8 +1,7 @@
 -- `score::score_read` meets its contract: each return is a row of `agreed`.
-use borrow.Author.Rules.{rules}
 use native.Mathlib.Omega.{arith}
 use Rattle.record.specs.Bytes.{File}
-use Rattle.answer.proofs.Outcomes.{Laid, laid, groups_placed}
+use Rattle.answer.proofs.Outcomes.{laid, groups_placed}
 use Rattle.matrix.proofs.Taken.{taken_legal, taken_length, taken_taxa, taken_columns, taken_multiplied}
 use Rattle.score.proofs.Light.{taken_light}
 use Rattle.score.proofs.Scoring.{other_taxa, other_columns, taken_row}

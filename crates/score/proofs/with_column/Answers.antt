@@ -1,5 +1,4 @@
 -- `score::with_column` meets its contract: nothing without a 1 (`without_ones`), else the flips at the node (`with_ones`), by what it calls.
-use borrow.Author.Rules.{rules}
 use native.Mathlib.Omega.{arith}
 use mathlib.Core.Path.{ap}
 use Prim.Native.Nat.{◌*◌}

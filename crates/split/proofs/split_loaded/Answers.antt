@@ -1,5 +1,4 @@
 -- `split::split_loaded` meets its contract: the file's columns are loaded, and the method's split of them is the file's.
-use borrow.Author.Rules.{rules}
 use native.Mathlib.Omega.{arith}
 use mathlib.Core.Path.{refl, ◌∙◌}
 use Prim.Native.Nat.{◌≤◌}
@@ -34,7 +33,7 @@ divide-found-requires c =
     let pre = c.requires in
     let bytes : File c.args.file.now = record { byte = λ i. omega (arith, c.type_inv.file i) } in
     let few_arcs : arc_count c.args.m (cols_of c.load.new.weights c.load.new.ones c.load.new.zeros) c.args.group ≤ c.args.needed =
-        arcs_fit bytes pre.0 pre.3 c.load.ensures.0 in
+    arcs_fit bytes pre.0 pre.3 c.load.ensures.0 in
     (given bytes pre.0 c.load.ensures.1 (c.load.ensures.2 ∙ pre.2) (read_positive bytes pre.0.taken _ c.planes_in-planes.ensures.0) c.planes_in-planes.ensures.1, omega (arith, few_arcs, pre.0.long, pre.3), record { joins = refl; limits = refl; offsets = refl; spare = record { counts = refl; tree = refl } })
 
 pub overflow_cast-result : goal.overflow_cast-result
@@ -45,5 +44,5 @@ returns c =
     let pre = c.requires in
     let bytes : File c.args.file.now = record { byte = λ i. omega (arith, c.type_inv.file i) } in
     let few_arcs : arc_count c.args.m (cols_of c.load.new.weights c.load.new.ones c.load.new.zeros) c.args.group ≤ c.args.needed =
-        arcs_fit bytes pre.0 pre.3 c.load.ensures.0 in
+    arcs_fit bytes pre.0 pre.3 c.load.ensures.0 in
     (found bytes pre.0 c.divide-found.ensures.0 (read_multiplicities bytes pre.0.taken _ c.planes_in-planes.ensures.0) c.load.ensures.0, still_cleared _ few_arcs (omega (arith, pre.0.long, pre.3)) c.clear.ensures c.divide-found.ensures.1)

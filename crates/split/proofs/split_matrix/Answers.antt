@@ -1,11 +1,8 @@
 -- `split::split_matrix` meets its contract: each return is a row of the operation's table.
-use borrow.Author.Rules.{rules}
 use native.Mathlib.Omega.{arith}
 use mathlib.Core.Path.{◌≡◌, refl, sym, ◌∙◌}
-use Prim.Native.Nat.{◌≤◌}
 use lib.ListN.{length}
 use lib.Seq.{length-take-le}
-use borrow.Author.Tests.{not-true, not-false}
 use Rattle.taxa.specs.Sets.{within, all}
 use Rattle.taxa.proofs.Members.{within_⊆}
 use Rattle.record.specs.Bytes.{File}
@@ -79,23 +76,23 @@ split_loaded-requires c =
     let bytes : File c.args.file.now = record { byte = λ i. omega (arith, c.type_inv.file i) } in
     let tested : within c.args.group (all c.args.n) ≡ c.subset.result = rw (← c.all.ensures) (sym c.subset.ensures) in
     let splittable : Splittable c.args.file.now c.args.group c.args.n c.args.m (length c.args.workspace.now) =
-        record {
-          taken = c.requires;
-          two = omega arith;
-          known = (within_⊆ _ _).0 (tested ∙ c.if-not-subset.false);
-          long = omega (arith, c.if-workspace-needed.false, c.one_entries-needed.ensures);
-        } in
+    record {
+      taken = c.requires;
+      two = omega arith;
+      known = (within_⊆ _ _).0 (tested ∙ c.if-not-subset.false);
+      long = omega (arith, c.if-workspace-needed.false, c.one_entries-needed.ensures);
+    } in
     (splittable, record { ones = refl; zeros = refl }, length-take-le _ _ (few_columns bytes c.requires), c.one_entries-needed.ensures)
 
 pub returns : goal.returns
 returns c =
     let tested : within c.args.group (all c.args.n) ≡ c.subset.result = rw (← c.all.ensures) (sym c.subset.ensures) in
     let splittable : Splittable c.args.file.now c.args.group c.args.n c.args.m (length c.args.workspace.now) =
-        record {
-          taken = c.requires;
-          two = omega arith;
-          known = (within_⊆ _ _).0 (tested ∙ c.if-not-subset.false);
-          long = omega (arith, c.if-workspace-needed.false, c.one_entries-needed.ensures);
-        } in
+    record {
+      taken = c.requires;
+      two = omega arith;
+      known = (within_⊆ _ _).0 (tested ∙ c.if-not-subset.false);
+      long = omega (arith, c.if-workspace-needed.false, c.one_entries-needed.ensures);
+    } in
     let e = c.split_loaded.ensures in
     (e.0 ∙ all_tested _ _ _ _ _ splittable, e.1 ∙ cleared_after _ _ _ c.one_entries-needed.ensures e.0)

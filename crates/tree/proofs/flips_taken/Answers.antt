@@ -33,7 +33,7 @@ pub grow_tree-own-requires : goal.grow_tree-own-requires
 grow_tree-own-requires c =
     let a = c.args in
     let lack_is : c.lack-lack.result ≡ lacking (length a.workspace.now) (one_entries (matrix_in a.file.now)) (length a.out.now) (room_for a.n a.m) =
-        c.lack-lack.ensures ∙ (λ i. lacking (length a.workspace.now) (c.one_entries-needed.ensures i) (length a.out.now) (c.answer_room-wanted.ensures i)) in
+    c.lack-lack.ensures ∙ (λ i. lacking (length a.workspace.now) (c.one_entries-needed.ensures i) (length a.out.now) (c.answer_room-wanted.ensures i)) in
     let lent = enough (length a.workspace.now) (one_entries (matrix_in a.file.now)) (length a.out.now) (room_for a.n a.m) (omega (arith, lack_is, c.if-lack-ne0.false)) in
     (record { taken = c.requires.0; places = lent.0 }, c.one_entries-needed.ensures)
 
@@ -42,7 +42,7 @@ is_tree-requires c =
     let a = c.args in
     let f : File a.file.now = record { byte = λ i. omega (arith, c.type_inv.file i) } in
     let lack_is : c.lack-lack.result ≡ lacking (length a.workspace.now) (one_entries (matrix_in a.file.now)) (length a.out.now) (room_for a.n a.m) =
-        c.lack-lack.ensures ∙ (λ i. lacking (length a.workspace.now) (c.one_entries-needed.ensures i) (length a.out.now) (c.answer_room-wanted.ensures i)) in
+    c.lack-lack.ensures ∙ (λ i. lacking (length a.workspace.now) (c.one_entries-needed.ensures i) (length a.out.now) (c.answer_room-wanted.ensures i)) in
     let lent = enough (length a.workspace.now) (one_entries (matrix_in a.file.now)) (length a.out.now) (room_for a.n a.m) (omega (arith, lack_is, c.if-lack-ne0.false)) in
     let growable : Growable a.file.now a.n a.m (length a.workspace.now) = record { taken = c.requires.0; places = lent.0 } in
     let g = c.grow_tree-own.ensures.0 in
@@ -62,7 +62,7 @@ returns-then-lack-ne0 c =
     let a = c.args in
     let agree = sym c.agrees.ensures ∙ c.if-not-agrees.false in
     let lack_is : c.lack-lack.result ≡ lacking (length a.workspace.now) (one_entries (matrix_in a.file.now)) (length a.out.now) (room_for a.n a.m) =
-        c.lack-lack.ensures ∙ (λ i. lacking (length a.workspace.now) (c.one_entries-needed.ensures i) (length a.out.now) (c.answer_room-wanted.ensures i)) in
+    c.lack-lack.ensures ∙ (λ i. lacking (length a.workspace.now) (c.one_entries-needed.ensures i) (length a.out.now) (c.answer_room-wanted.ensures i)) in
     rw c.refused-then-lack-ne0.ensures (lack_row _ _ _ _ _ _ _ _ agree lack_is (λ e. c.if-lack-ne0.true e))
 
 pub returns-then-not-is_tree : goal.returns-then-not-is_tree
@@ -70,9 +70,9 @@ returns-then-not-is_tree c =
     let a = c.args in
     let agree = sym c.agrees.ensures ∙ c.if-not-agrees.false in
     let firsts : equal a.tree.now (tree_file a.file.now) ≡ c.is_tree.result =
-        sym (c.is_tree.ensures ∙ ap (λ (x : Content). equal a.tree.now (file_of x)) c.grow_tree-own.ensures.0.tree) in
+    sym (c.is_tree.ensures ∙ ap (λ (x : Content). equal a.tree.now (file_of x)) c.grow_tree-own.ensures.0.tree) in
     let lack_is : c.lack-lack.result ≡ lacking (length a.workspace.now) (one_entries (matrix_in a.file.now)) (length a.out.now) (room_for a.n a.m) =
-        c.lack-lack.ensures ∙ (λ i. lacking (length a.workspace.now) (c.one_entries-needed.ensures i) (length a.out.now) (c.answer_room-wanted.ensures i)) in
+    c.lack-lack.ensures ∙ (λ i. lacking (length a.workspace.now) (c.one_entries-needed.ensures i) (length a.out.now) (c.answer_room-wanted.ensures i)) in
     let (long, fits) = enough (length a.workspace.now) (one_entries (matrix_in a.file.now)) (length a.out.now) (room_for a.n a.m) (omega (arith, lack_is, c.if-lack-ne0.false)) in
     rw c.refused-then-not-is_tree.ensures
     (differs_row _ _ _ _ _ _ _ _ agree long fits c.grow_tree-own.ensures.1 (firsts ∙ c.if-not-is_tree.true))
@@ -83,9 +83,9 @@ returns c =
     let f : File a.file.now = record { byte = λ i. omega (arith, c.type_inv.file i) } in
     let agree = sym c.agrees.ensures ∙ c.if-not-agrees.false in
     let firsts : equal a.tree.now (tree_file a.file.now) ≡ c.is_tree.result =
-        sym (c.is_tree.ensures ∙ ap (λ (x : Content). equal a.tree.now (file_of x)) c.grow_tree-own.ensures.0.tree) in
+    sym (c.is_tree.ensures ∙ ap (λ (x : Content). equal a.tree.now (file_of x)) c.grow_tree-own.ensures.0.tree) in
     let lack_is : c.lack-lack.result ≡ lacking (length a.workspace.now) (one_entries (matrix_in a.file.now)) (length a.out.now) (room_for a.n a.m) =
-        c.lack-lack.ensures ∙ (λ i. lacking (length a.workspace.now) (c.one_entries-needed.ensures i) (length a.out.now) (c.answer_room-wanted.ensures i)) in
+    c.lack-lack.ensures ∙ (λ i. lacking (length a.workspace.now) (c.one_entries-needed.ensures i) (length a.out.now) (c.answer_room-wanted.ensures i)) in
     let (long, fits) = enough (length a.workspace.now) (one_entries (matrix_in a.file.now)) (length a.out.now) (room_for a.n a.m) (omega (arith, lack_is, c.if-lack-ne0.false)) in
     let growable : Growable a.file.now a.n a.m (length a.workspace.now) = record { taken = c.requires.0; places = long } in
     whole_row _ _ _ _ _ _ _ _ agree long fits c.grow_tree-own.ensures.1 (firsts ∙ c.if-not-is_tree.false)

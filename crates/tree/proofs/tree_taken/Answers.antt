@@ -25,14 +25,14 @@ pub returns-then-lack-ne0 : goal.returns-then-lack-ne0
 returns-then-lack-ne0 c =
     let a = c.args in
     let lack_is : c.lack-lack.result ≡ lacking (length a.workspace.now) (one_entries (matrix_in a.file.now)) (length a.out.now) (tree_room a.n) =
-        c.lack-lack.ensures ∙ (λ i. lacking (length a.workspace.now) (c.one_entries-needed.ensures i) (length a.out.now) (c.tree_room.ensures i)) in
+    c.lack-lack.ensures ∙ (λ i. lacking (length a.workspace.now) (c.one_entries-needed.ensures i) (length a.out.now) (c.tree_room.ensures i)) in
     rw c.refused.ensures (tree_lacks _ _ _ _ _ lack_is (λ e. c.if-lack-ne0.true e), tree_output_left _ _ _, workspace_left _ _ _)
 
 pub grow_tree-tree-requires : goal.grow_tree-tree-requires
 grow_tree-tree-requires c =
     let a = c.args in
     let lack_is : c.lack-lack.result ≡ lacking (length a.workspace.now) (one_entries (matrix_in a.file.now)) (length a.out.now) (tree_room a.n) =
-        c.lack-lack.ensures ∙ (λ i. lacking (length a.workspace.now) (c.one_entries-needed.ensures i) (length a.out.now) (c.tree_room.ensures i)) in
+    c.lack-lack.ensures ∙ (λ i. lacking (length a.workspace.now) (c.one_entries-needed.ensures i) (length a.out.now) (c.tree_room.ensures i)) in
     let lent = enough (length a.workspace.now) (one_entries (matrix_in a.file.now)) (length a.out.now) (tree_room a.n) (omega (arith, lack_is, c.if-lack-ne0.false)) in
     (record { taken = c.requires; places = lent.0 }, c.one_entries-needed.ensures)
 
@@ -41,7 +41,7 @@ returns c =
     let a = c.args in
     let f : File a.file.now = record { byte = λ i. omega (arith, c.type_inv.file i) } in
     let lack_is : c.lack-lack.result ≡ lacking (length a.workspace.now) (one_entries (matrix_in a.file.now)) (length a.out.now) (tree_room a.n) =
-        c.lack-lack.ensures ∙ (λ i. lacking (length a.workspace.now) (c.one_entries-needed.ensures i) (length a.out.now) (c.tree_room.ensures i)) in
+    c.lack-lack.ensures ∙ (λ i. lacking (length a.workspace.now) (c.one_entries-needed.ensures i) (length a.out.now) (c.tree_room.ensures i)) in
     let (long, fits) = enough (length a.workspace.now) (one_entries (matrix_in a.file.now)) (length a.out.now) (tree_room a.n) (omega (arith, lack_is, c.if-lack-ne0.false)) in
     let growable : Growable a.file.now a.n a.m (length a.workspace.now) = record { taken = c.requires; places = long } in
     let grown = c.grow_tree-tree.ensures in

@@ -1,8 +1,6 @@
 -- `columns::one_entries` meets its contract. The invariant: the sizes of the 1-sets passed, added up.
-use borrow.Author.Rules.{rules}
 use native.Mathlib.Omega.{arith}
 use mathlib.Core.Path.{◌≡◌, refl}
-use Prim.Native.Nat.{◌≤◌, ◌-◌}
 use Rattle.taxa.specs.Sum.{sum}
 use Rattle.taxa.specs.Sets.{sizes}
 use Rattle.taxa.proofs.Counts.{count_le}

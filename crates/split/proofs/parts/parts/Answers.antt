@@ -1,15 +1,14 @@
 -- `parts::parts` meets its contract. The invariant: what is listed and the parts of what is left are all parts.
-use borrow.Author.Rules.{rules}
 use native.Mathlib.Omega.{arith}
 use mathlib.Core.Path.{◌≡◌}
 use Prim.Native.Nat.{ℕ, ◌<◌, ◌^◌}
 use lib.Arith.{le-zero}
 use lib.ListN.{length}
 use mathlib.Core.List.{List}
-use Rattle.taxa.specs.Sets.{Positive, count, low}
+use Rattle.taxa.specs.Sets.{Positive, low}
 use Rattle.method.specs.Split.{part}
 use Rattle.search.specs.Search.{cols_of}
-use Rattle.split.proofs.Collecting.{Collecting, collect_none, has_room, fewer, collect_one, all_collected}
+use Rattle.split.proofs.Collecting.{collect_none, has_room, fewer, collect_one, all_collected}
 use Rattle.split.proofs.parts.parts.Goals as goal
 
 pub loop-left-init : goal.loop-left-init
@@ -40,14 +39,14 @@ pub loop-left-smaller : goal.loop-left-smaller
 loop-left-smaller c =
     let fits : c.args.group < 2 ^ 64 = omega (arith, c.ranges.group) in
     let found : (μ : ℕ → ℕ) → Positive μ → (ws : List ℕ) → c.part-it.result ≡ part 64 μ (length c.args.ones.now) (cols_of ws c.args.ones.now c.args.zeros.now) c.args.group (low 64 c.loop-left.left) =
-        λ μ pos ws. rw (← c.lowest.ensures.0) (c.part-it.ensures μ pos ws) in
+    λ μ pos ws. rw (← c.lowest.ensures.0) (c.part-it.ensures μ pos ws) in
     rw c.difference-left.ensures (fewer _ _ _ _ fits c.loop-left.invariant c.requires.1 c.loop-left-test.true found)
 
 pub loop-left-preserved : goal.loop-left-preserved
 loop-left-preserved c =
     let fits : c.args.group < 2 ^ 64 = omega (arith, c.ranges.group) in
     let found : (μ : ℕ → ℕ) → Positive μ → (ws : List ℕ) → c.part-it.result ≡ part 64 μ (length c.args.ones.now) (cols_of ws c.args.ones.now c.args.zeros.now) c.args.group (low 64 c.loop-left.left) =
-        λ μ pos ws. rw (← c.lowest.ensures.0) (c.part-it.ensures μ pos ws) in
+    λ μ pos ws. rw (← c.lowest.ensures.0) (c.part-it.ensures μ pos ws) in
     rw c.difference-left.ensures (collect_one _ _ _ _ fits c.loop-left.invariant c.requires.1 c.loop-left-test.true found)
 
 pub returns : goal.returns

@@ -1,9 +1,7 @@
 -- `tree::answers::write_whole` meets its contract: the value handed to the writing of answers holds the tree and the flips listed.
 use native.Mathlib.Omega.{arith}
 use mathlib.Core.Path.{◌≡◌}
-use Prim.Native.Nat.{◌≤◌}
-use lib.ListN.{length}
-use Rattle.method.specs.Tree.{column, flip_list}
+use Rattle.method.specs.Tree.{column}
 use Rattle.answer.specs.Reading.{listed}
 use Rattle.split.specs.Columns.{matrix_in}
 use Rattle.tree.specs.inner.Lists.{FlipRoom, unweighed}
@@ -32,7 +30,7 @@ returns c =
     let p = c.requires in
     let few = list_few (column (matrix_in a.file.now).columns) (unweighed a.ones.now a.zeros.now) a.tree.m in
     let lists_long : listed flips.new.columns flips.new.ones flips.new.zeros ≡ 256 =
-        omega (arith, p.ones, p.zeros, flips.auto.columns, flips.auto.ones, flips.auto.zeros) in
+    omega (arith, p.ones, p.zeros, flips.auto.columns, flips.auto.ones, flips.auto.zeros) in
     let room : FlipRoom flips.result flips.new.columns flips.new.ones flips.new.zeros = record {
       columns_room = omega (arith, p.few_columns, flips.ensures.size, flips.auto.columns);
       raised_room = omega (arith, p.few_columns, p.ones, flips.ensures.size, flips.auto.ones);

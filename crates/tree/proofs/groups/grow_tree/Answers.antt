@@ -1,7 +1,6 @@
 -- `tree::groups::grow_tree` meets its contract: the columns loaded, the workspace cleared, the walk from all taxa, its groups put in order.
 use native.Mathlib.Omega.{arith}
 use mathlib.Core.Path.{◌≡◌, refl, sym, ◌∙◌}
-use Prim.Native.Nat.{◌≤◌}
 use lib.Seq.{length-take-le}
 use Rattle.record.specs.Bytes.{File}
 use Rattle.taxa.specs.Sets.{multiplicity, multiplicity_in}
@@ -68,8 +67,7 @@ returns c =
     let b = c.requires.0 in
     let front = c.load_columns.ensures in
     let planes = c.planes_in-planes in
-    let same : multiplicity_in planes.result ≡ multiplicity (matrix_in c.args.file.now).multiplicities = read_multiplicities f b.taken planes.result planes.ensures.0 in
-    (
+    let same : multiplicity_in planes.result ≡ multiplicity (matrix_in c.args.file.now).multiplicities = read_multiplicities f b.taken planes.result planes.ensures.0 in (
       has_grown f b _ _ _ _ _ _ _ _ _ _ _ same (lent_columns f b _ planes.result _ _ front) front.sized c.grow_all-k.ensures.0 c.grow_all-k.ensures.1 c.in_file_order.ensures,
       c.grow_all-k.ensures.0.workspace ∙ rw (← c.requires.1) c.clear.ensures,
     )

@@ -20,8 +20,7 @@ returns c =
     let a = c.args in
     let order = c.in_order-groups in
     let sum_is : c.sum_costs-total.result ≡ total (ordered 64 a.n (first_groups a.walked.now a.paid.now a.k)) =
-        c.sum_costs-total.ensures ∙ sym (total_of _ _ order.result) ∙ ap total order.ensures.list in
-    (
+    c.sum_costs-total.ensures ∙ sym (total_of _ _ order.result) ∙ ap total order.ensures.list in (
       tree_held a.n a.m 0
           (record {
             taxa_room = omega (arith, c.requires.few, order.ensures.size, order.auto.taxa);

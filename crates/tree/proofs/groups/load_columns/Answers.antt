@@ -1,5 +1,4 @@
 -- `tree::groups::load_columns` meets its contract: the columns are loaded into the first entries.
-use borrow.Author.Rules.{rules}
 use mathlib.Core.Path.{sym, ◌∙◌}
 use lib.Seq.{length-take-le}
 use Rattle.tree.proofs.Building.{in_front}

@@ -1,6 +1,6 @@
 -- The cycle of calls {grow, walk} meets its contracts: a group is split, and the walk over its parts comes back as the whole group; a walk goes from part
 -- to part, each a group that the workspace is clear for.
-use Prim.Native.Nat.{◌+◌, ◌-◌, ◌≤◌, ◌<◌}
+use Prim.Native.Nat.{◌-◌, ◌<◌}
 use borrow.Author.Rules.{rules}
 use native.Mathlib.Omega.{arith}
 use mathlib.Core.Path.{refl, ◌∙◌}

@@ -2,8 +2,7 @@
 use borrow.Author.Rules.{rules}
 use native.Mathlib.Omega.{arith}
 use mathlib.Core.Path.{◌≡◌, refl}
-use Prim.Native.Nat.{◌+◌, ◌-◌, ◌≤◌}
-use lib.ListN.{length}
+use Prim.Native.Nat.{◌+◌, ◌-◌}
 use Rattle.method.specs.Tree.{ordered}
 use Rattle.tree.specs.Lists.{first_groups}
 use Rattle.tree.proofs.Lists.{ordered_next, ordered_more, ordered_size}

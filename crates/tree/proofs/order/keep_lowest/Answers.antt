@@ -2,9 +2,8 @@
 use borrow.Author.Rules.{rules}
 use native.Mathlib.Omega.{arith}
 use mathlib.Core.Path.{◌≡◌, refl, sym, ◌∙◌}
-use mathlib.Core.List.{◌++◌, append-nil, append_assoc}
-use Prim.Native.Nat.{◌+◌, ◌-◌, ◌≤◌}
-use lib.ListN.{length}
+use mathlib.Core.List.{append-nil, append_assoc}
+use Prim.Native.Nat.{◌-◌}
 use Rattle.method.specs.Tree.{kept}
 use Rattle.tree.specs.Lists.{first_groups}
 use Rattle.tree.specs.inner.Lists.{starts_at}

@@ -2,15 +2,14 @@
 use borrow.Author.Rules.{rules}
 use native.Mathlib.Omega.{arith}
 use mathlib.Core.Path.{◌≡◌, refl, sym, ap, ◌∙◌}
-use Prim.Native.Nat.{◌-◌, ◌≤◌}
-use lib.ListN.{length}
+use Prim.Native.Nat.{◌-◌}
 use Rattle.taxa.specs.Sets.{◌∩◌}
 use Rattle.method.specs.Split.{Column}
 use Rattle.method.specs.Tree.{column, flip_list}
 use Rattle.split.specs.Columns.{column_of, matrix_in}
 use Rattle.split.proofs.Loading.{file_column}
 use Rattle.tree.specs.Lists.{first_flips}
-use Rattle.tree.specs.inner.Lists.{SameFrom, unweighed}
+use Rattle.tree.specs.inner.Lists.{unweighed}
 use Rattle.tree.proofs.Lists.{list_next, list_size, list_few, same_all, same_on}
 use Rattle.tree.proofs.order.list_flips.Goals as goal
 

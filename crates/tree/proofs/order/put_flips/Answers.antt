@@ -1,5 +1,4 @@
 -- `tree::order::put_flips` meets its contract: three stores make one flipped column more.
-use borrow.Author.Rules.{rules}
 use native.Mathlib.Omega.{arith}
 use mathlib.Core.Path.{refl, sym}
 use mathlib.Core.List.{append-nil}

@@ -1,5 +1,4 @@
 -- `tree::order::put_group` meets its contract: where the test holds two stores make one group more.
-use borrow.Author.Rules.{rules}
 use native.Mathlib.Omega.{arith}
 use mathlib.Core.List.{append-nil}
 use mathlib.Core.Path.{refl, sym}
