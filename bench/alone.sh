@@ -1,31 +1,29 @@
 # Sourced by the scripts of this folder, at the repository's top, after tests/env.sh; it brings scripts/program.sh. `alone` makes a crate that exports
-# a function to C, in copies of the crates and of what was proved of them, below target/alone, and its static library there.
+# a function to C, outside the repository, over what was proved of the crates, and its static library in `room`.
 
 . scripts/program.sh
+. scripts/prover.sh
 room=$(mktemp -d)
 trap 'rm -rf "$room"' EXIT
-work=target/alone
 
 quietly() { "$@" >"$room/log" 2>&1 || { tail -20 "$room/log"; exit 1; }; }
 
-# Copies what is proved now.
-copy_crates() {
-    rm -rf "$work"
-    mkdir -p "$work/target"
-    cp -R crates crates.txt "$work"
-    cp -R target/rlib target/stamp "$work/target"
+# A library of the crates, where rt has not left it.
+have() { # CRATE
+    [ -e "crates/$1/out/rlib/$1.rlib" ] || (cd "crates/$1" && quietly rt lib)
 }
 
-alone() { # NAME DEPENDENCIES, its source on standard input
-    mkdir -p "$work/crates/$1/src"
-    cat >"$work/crates/$1/src/lib.rt"
-    echo "$1: $2" >>"$work/crates.txt"
-    (cd "$work" && quietly rt staticlib "$1")
+alone() { # NAME NEEDS, its source on standard input
+    local crate
+    for crate in $2; do have "$crate"; done
+    mkdir -p "$room/$1/src"
+    cat >"$room/$1/src/lib.rt"
+    (cd "$room/$1" && quietly make_static "$1" "$2" "$room/lib$1.a")
 }
 
-# What is timed has each function at a page's start: under the emulator a loop that runs over a page's end takes up to 2.5 times as long, and which
-# one does is chance. The flags are for what is compiled, the function is for a library.
+# What is timed has each function at a page's start: where a loop runs over a page's end is chance. The flags are for what is compiled, the function is for
+# a library.
 apart_flags=(-falign-functions=4096)
 apart() { # LIBRARY COPY, and more words for objcopy
-    "${cc%gcc}objcopy" --set-section-alignment '.text.*=4096' "${@:3}" "$1" "$2"
+    objcopy --set-section-alignment '.text.*=4096' "${@:3}" "$1" "$2"
 }

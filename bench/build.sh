@@ -2,7 +2,7 @@
 # Times whole builds of 64 taxa and 256 columns by the operation "build", and says how long a workspace it needs:
 #   bench/build.sh                 against plain C of the same method, with the stack that the operation uses
 #   bench/build.sh compare OLD.a   against an earlier libflipcut.a, with the bytes that are lent to each
-# Both are x86-64 code in one program, so on Arm both run under the toolchain's emulator. What is not yet proved is proved first.
+# Both stand in one program. What is not yet proved is proved first.
 set -euo pipefail
 here=$(cd "$(dirname "$0")" && pwd -P)
 case "$#${1:-}" in
@@ -26,4 +26,4 @@ if [ -n "$earlier" ]; then
     parts=(bench/compare.c "$room/now.a" "$room/earlier.a")
 fi
 "$cc" "${c_flags[@]}" "${apart_flags[@]}" "${parts[@]}" -o "$room/build"
-${run[@]+"${run[@]}"} "$room/build"
+"$room/build"

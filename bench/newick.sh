@@ -2,8 +2,7 @@
 # Times the reading of source trees, texts of 1 MiB, by the operation against a plain C tokenizer and plain C that reads all of it (bench/plain_newick.h)
 # and, on the last text, against DendroPy (Debian's package python3-dendropy). Ends with 1 where what is read differs, or where the operation has less
 # than half of the tokenizer's speed.
-# C and operation are x86-64 code in one program, so on Arm both run under the toolchain's emulator, and DendroPy does not. What is not yet proved is
-# proved first.
+# C and operation stand in one program. What is not yet proved is proved first.
 set -euo pipefail
 here=$(cd "$(dirname "$0")" && pwd -P)
 [ $# = 0 ] || { echo "usage: bench/newick.sh" >&2; exit 2; }
@@ -16,7 +15,7 @@ archive flipcut
 apart target/staticlib/libflipcut.a "$room/flipcut.a"
 "$cc" "${c_flags[@]}" "${apart_flags[@]}" bench/newick.c "$room/flipcut.a" -o "$room/newick"
 status=0
-${run[@]+"${run[@]}"} "$room/newick" "$room/text" || status=$?
+"$room/newick" "$room/text" || status=$?
 [ "$status" -le 1 ] && [ -s "$room/text" ] || exit 1
 
 /usr/bin/python3 - "$room/text" <<'PY'

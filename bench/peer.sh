@@ -2,7 +2,7 @@
 # Times whole builds by the operation "build" against FlipCut on LEMON's Preflow, a library of largest flows (Debian's package liblemon-dev):
 #   bench/peer.sh          ten kinds of matrices of 64 taxa and 256 columns
 #   bench/peer.sh growth   random and interval matrices of 16 to 64 taxa, and of 64 to 256 columns
-# Both are x86-64 code in one program, so on Arm both run under the toolchain's emulator. What is not yet proved is proved first.
+# Both stand in one program. What is not yet proved is proved first.
 set -euo pipefail
 here=$(cd "$(dirname "$0")" && pwd -P)
 case "$#${1:-}" in
@@ -22,4 +22,4 @@ archive flipcut
 apart target/staticlib/libflipcut.a "$room/flipcut.a"
 # LEMON makes nodes and arcs before it fills them, inlined into the program, so the compiler warns in spite of -isystem.
 "$cxx" "${cxx_flags[@]}" "${apart_flags[@]}" -Wno-maybe-uninitialized -isystem "$room" bench/peer.cpp "$room/flipcut.a" -o "$room/peer"
-${run[@]+"${run[@]}"} "$room/peer" "$@"
+"$room/peer" "$@"

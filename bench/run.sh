@@ -7,26 +7,23 @@ cd "$(dirname "$here")"
 . tests/env.sh
 . bench/alone.sh
 
-prove search
-copy_crates
-
 alone port "method search" <<'RT'
-ghost use Prim.Native.Nat.{_≤_, _<_};
-ghost use lib.ListN.{length};
-ghost use Rattle·method.specs.Flow.{arcCount};
-ghost use Rattle·search.specs.Search.{colsOf, Given, Lent};
+#![tactic(auto)]
+ghost use Rattle.std.specs.Prelude.{◌≤◌, ◌<◌, length};
+ghost use Rattle.method.specs.Flow.{arc_count};
+ghost use Rattle.search.specs.Search.{cols_of, Given, Lent};
 
 fn wide(x: u32) -> u64 {
     x as u64
 }
 
 fn put(out: &mut [u64], at: usize, x: u64)
-    requires { ⌜ at < length (now out) ⌝ }
+    requires { at < length out.old }
 {
     out[at] = x;
 }
 
-#[no_mangle]
+#[unsafe(no_mangle)]
 pub extern "C" fn search_group(
     weights: &[u16],
     planes: &[u64; 72],
@@ -43,11 +40,10 @@ pub extern "C" fn search_group(
     tree: &mut [u32; 256],
     out: &mut [u64],
 )
-    requires { ⌜
-        Given (now weights) (now planes) (now ones) (now zeros) group n m
-        × (arcCount m (colsOf (now weights) (now ones) (now zeros)) group ≤ length (now ws))
-        × Lent (now joined) (now limits) (now offsets) (now used) (now tree)
-        × (3 ≤ length (now out)) ⌝ }
+    requires { Given weights.now planes.now ones.now zeros.now group n m
+        × (arc_count m (cols_of weights.now ones.now zeros.now) group ≤ length ws.old)
+        × Lent joined.old limits.old offsets.old used.old tree.old
+        × (3 ≤ length out.old) }
 {
     let found = search::divide(weights, planes, ones, zeros, group, n, m, ws, joined, limits, offsets, used, tree);
     put(out, 0, wide(found.cost));
@@ -56,6 +52,6 @@ pub extern "C" fn search_group(
 }
 RT
 
-apart "$work/target/staticlib/libport.a" "$room/port.a"
+apart "$room/libport.a" "$room/port.a"
 "$cc" "${c_flags[@]}" "${apart_flags[@]}" -DRATTLE bench/bench.c "$room/port.a" -o "$room/bench"
-${run[@]+"${run[@]}"} "$room/bench"
+"$room/bench"

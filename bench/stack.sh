@@ -11,12 +11,12 @@ cd "$(dirname "$here")"
 
 archive flipcut
 prove outline
-copy_crates
 
 alone build_alone "record tree" <<'RT'
+#![tactic(auto)]
 use tree::Built;
 
-#[no_mangle]
+#[unsafe(no_mangle)]
 pub extern "C" fn build_alone(file: &[u8], workspace: &mut [i32], out: &mut [u8]) -> u64 {
     let found = tree::build(file, workspace, out);
     match found {
@@ -27,9 +27,10 @@ pub extern "C" fn build_alone(file: &[u8], workspace: &mut [i32], out: &mut [u8]
 RT
 
 alone split_alone "record split" <<'RT'
+#![tactic(auto)]
 use split::Divided;
 
-#[no_mangle]
+#[unsafe(no_mangle)]
 pub extern "C" fn split_alone(file: &[u8], group: u64, workspace: &mut [i32]) -> u64 {
     let found = split::split(file, group, workspace);
     match found {
@@ -40,8 +41,8 @@ pub extern "C" fn split_alone(file: &[u8], group: u64, workspace: &mut [i32]) ->
 RT
 
 status=0
-"$cc" "${c_flags[@]}" bench/stack.c target/staticlib/libflipcut.a "$work"/target/staticlib/lib{build,split}_alone.a -o "$room/stack"
-${run[@]+"${run[@]}"} "$room/stack" "$room" || status=1
+"$cc" "${c_flags[@]}" bench/stack.c target/staticlib/libflipcut.a "$room"/lib{build,split}_alone.a -o "$room/stack"
+"$room/stack" "$room" || status=1
 
 # Whether the program prints a file's tree with this much stack.
 prints_tree() { # FILE KIB
@@ -49,11 +50,11 @@ prints_tree() { # FILE KIB
     { "${run_limited[@]}" target/bin/outline <"$1" | cmp -s - "$1.tree"; } 2>/dev/null
 }
 
-# The least stack with which the program prints every tree, in pages. Less than the floor is not tried: the emulator gives no less.
+# The least stack with which the program prints every tree, in pages. Less than the floor is not tried.
 page=4 floor=128 enough=8192
 least=$floor
 for file in "$room"/*.matrix; do
-    "${run_rattle[@]}" target/bin/outline <"$file" >"$file.tree"
+    target/bin/outline <"$file" >"$file.tree"
     prints_tree "$file" $least && continue
     most=$enough
     while [ $((most - least)) -gt $page ]; do

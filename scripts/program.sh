@@ -92,7 +92,7 @@ is_made() { # CRATE SUM FILE
 }
 
 # Puts what rt made of a crate where the scripts take it from: at once, since a run before may be starting it.
-keep() { # CRATE SUM MADE FILE
+take() { # CRATE SUM MADE FILE
     rm -f "$top/target/sum/$1"
     cp "$top/crates/$1/out/$3" "$top/target/$4.new" && mv "$top/target/$4.new" "$top/target/$4" && printf '%s\n' "$2" >"$top/target/sum/$1"
 }
@@ -122,7 +122,7 @@ make_of() { # CRATE VERB MADE FILE
     trap - INT TERM HUP
     [ "$status" != 0 ] || progress 1
     [ ! -t 2 ] || printf '\r\033[K' >&2
-    if [ "$status" = 0 ] && keep "$1" "$sum" "$3" "$4"; then
+    if [ "$status" = 0 ] && take "$1" "$sum" "$3" "$4"; then
         exec 9>&-
         return 0
     fi

@@ -1,9 +1,7 @@
 # Sourced by the scripts that compile something beside the proofs. It sets, beside what scripts/machine.sh sets,
-#   host_cxx   the compiler for this machine
-#   cc, cxx    the compilers for programs that link what Rattle compiles, which is x86-64 code
-#   run        the words before such a program: none, or the toolchain's emulator
+#   cc, cxx         the compilers
 #   outline_stack   the stack, in KiB, that the program `outline` has to do with (document 02's C-16)
-#   limit_stack     a function that sets run_limited, the words before a program of target/bin that is to have no more stack than it says
+#   limit_stack     a function that sets run_limited, the words before a program that is to have no more stack than it says
 #   c_flags, cxx_flags   the words after a compiler
 #   add_package     a function that installs one of Debian's packages
 #   need_dendropy   a function that sees to DendroPy, a library for Debian's own Python, /usr/bin/python3
@@ -28,22 +26,12 @@ need_dendropy() {
 }
 
 need g++ g++
-host_cxx=g++
-case $machine in
-x86_64) cc=gcc cxx=g++ run=() ;;
-aarch64)
-    need x86_64-linux-gnu-g++ g++-x86-64-linux-gnu
-    # The emulator finds the x86-64 C and C++ libraries where Debian's cross compiler has them. (Its libm.a names files
-    # where it has none, so a static program cannot be linked.)
-    cc=x86_64-linux-gnu-gcc cxx=x86_64-linux-gnu-g++ run=("${emulator[@]}" -L /usr/x86_64-linux-gnu)
-    ;;
-esac
+cc=gcc cxx=g++
 
 outline_stack=160
-# A program's variables stand on its stack, so it is given none. The emulator's stack has 8 MiB where `ulimit` says less: it goes by its own
-# variable, in bytes, and by nothing below 128 KiB.
+# A program's variables stand on its stack, so it is given none.
 limit_stack() { # KIB
-    run_limited=(env -i sh -c 'ulimit -s "$1" && export QEMU_STACK_SIZE=$(($1 * 1024)) && shift && exec "$@"' sh "$1" "${run_rattle[@]}")
+    run_limited=(env -i sh -c 'ulimit -s "$1" && shift && exec "$@"' sh "$1")
 }
 
 c_flags=(-std=c11 -O2 -Wall -Wextra -Werror)
