@@ -1,5 +1,4 @@
 -- `flipcut::matrices::flipcut_build` meets its contract: what the operation answers fits its bits.
-use borrow.Author.Rules.{rules}
 use native.Mathlib.Omega.{arith}
 use Rattle.flipcut.proofs.Fitting.{build_fits}
 use Rattle.flipcut.proofs.matrices.flipcut_build.Goals as goal

@@ -1,5 +1,4 @@
 -- `flipcut::matrices::flipcut_flips` meets its contract: what the operation answers fits its bits.
-use borrow.Author.Rules.{rules}
 use native.Mathlib.Omega.{arith}
 use Rattle.flipcut.proofs.Fitting.{flips_fit}
 use Rattle.flipcut.proofs.matrices.flipcut_flips.Goals as goal

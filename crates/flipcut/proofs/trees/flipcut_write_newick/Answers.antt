@@ -1,5 +1,4 @@
 -- `flipcut::trees::flipcut_write_newick` meets its contract: what the operation answers fits its bits.
-use borrow.Author.Rules.{rules}
 use native.Mathlib.Omega.{arith}
 use Rattle.flipcut.proofs.Fitting.{text_fits}
 use Rattle.flipcut.proofs.trees.flipcut_write_newick.Goals as goal
