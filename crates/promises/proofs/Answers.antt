@@ -25,7 +25,7 @@ use Rattle.answer.proofs.Runs.{front_is}
 use Rattle.answer.proofs.Pieces.{length_file}
 use Rattle.answer.proofs.Encoding.{file_holds}
 use Rattle.answer.proofs.RoundTrip.{reads_back, read_content}
-use Rattle.method.specs.Tree.{Group, Flips, Matrix, one_entries, Sound, answer, total}
+use Rattle.method.specs.Tree.{Group, Flips, Matrix, one_entries, Sound, answer}
 use Rattle.split.specs.Columns.{matrix_in}
 use Rattle.split.proofs.Soundness.{taken_sound}
 use Rattle.tree.specs.declared.Built.{Built}

@@ -28,7 +28,7 @@ use Rattle.answer.specs.Reading.{file_tests}
 use Rattle.answer.proofs.Runs.{front_is}
 use Rattle.answer.proofs.Pieces.{length_file}
 use Rattle.answer.proofs.Places.{answer_by}
-use Rattle.method.specs.Tree.{one_entries, answer}
+use Rattle.method.specs.Tree.{one_entries}
 use Rattle.split.specs.Columns.{matrix_in}
 use Rattle.tree.specs.declared.Built.{Built}
 use Rattle.tree.specs.declared.Built.TheVariants.{Taken, Refused}

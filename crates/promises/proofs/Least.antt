@@ -10,12 +10,11 @@ use native.Mathlib.Omega.{arith}
 use lib.Dec.{eqb}
 use lib.ListN.{length, get_or, length-map}
 use Rattle.taxa.specs.Sum.{sum}
-use Rattle.taxa.specs.Sets.{◌⊆◌, mass, all}
+use Rattle.taxa.specs.Sets.{mass, all}
 use Rattle.taxa.proofs.Sums.{sum_≡, sum_+}
 use Rattle.taxa.proofs.Members.{none, below, in_all, all_<, all_fits, ⊆-≤, ∩-disjoint}
 use Rattle.record.specs.Bytes.{File}
 use Rattle.record.proofs.Steps.{either_way}
-use Rattle.matrix.specs.declared.Column as matrix
 use Rattle.matrix.specs.Matrix.{LegalColumn, column_in, matrix_of}
 use Rattle.matrix.proofs.Taken.{taken_column}
 use Rattle.answer.specs.Content.{Content, content_in, length_of}
@@ -23,7 +22,7 @@ use Rattle.answer.specs.Lawful.{Lawful}
 use Rattle.answer.proofs.Accepted.{taken_lawful}
 use Rattle.answer.proofs.Encoding.{file_taken}
 use Rattle.method.specs.Split.{Column, Same}
-use Rattle.method.specs.Tree.{Matrix, Sound, answer, made, group, single, RootedTree}
+use Rattle.method.specs.Tree.{Matrix, Sound, made, group, single, RootedTree}
 use Rattle.method.specs.Choices.{turned_by, choice_weight, LetsFill}
 use Rattle.method.proofs.Clades.{clades_tree}
 use Rattle.method.proofs.Choices.{wrong, Goal, filling, wrong_mass, least_weight}

@@ -1,7 +1,7 @@
 -- C-13, from the number that is returned: after success of build or split the workspace has zeros to the count of 1-entries and is unchanged past it
 -- (`build_workspace`, `split_workspace`); the count is never above n x m, which was asked before (`ones_few`), and 0 where there is no 1 (`no_ones`).
-use mathlib.Core.Path.{◌≡◌, refl, sym, ap, ◌∙◌}
-use mathlib.Core.Bool.{Bool, true, false, ◌||◌, cond}
+use mathlib.Core.Path.{◌≡◌, refl, ap, ◌∙◌}
+use mathlib.Core.Bool.{Bool, true, false, cond}
 use mathlib.Core.List.{List, [], ◌∷◌, ◌++◌}
 use Prim.Native.Nat.{ℕ, zero, suc, ◌*◌, ◌≤◌, ◌<◌}
 use native.Mathlib.Nat.{not-suc-le-zero, le_of_suc-le-suc, mul_comm}
@@ -11,12 +11,11 @@ use lib.IntN.{ℤ, pos}
 use lib.ListN.{length, get_or, drop, replicate, length-append, length-replicate, length-drop, get_or-replicate, get_or-append}
 use borrow.Author.Tests.{ltb-false}
 use Rattle.taxa.specs.Sum.{sum}
-use Rattle.taxa.specs.Sets.{count, sizes, all}
+use Rattle.taxa.specs.Sets.{count, sizes}
 use Rattle.taxa.proofs.Sums.{sum_bound, sum_none}
 use Rattle.taxa.proofs.Counts.{count_⊆, count_all, count_none}
 use Rattle.record.specs.Bytes.{File}
 use Rattle.record.specs.Records.{refused}
-use Rattle.record.specs.declared.Refusal.{Refusal}
 use Rattle.matrix.specs.declared.Checked.{Checked}
 use Rattle.matrix.specs.declared.Checked.TheVariants as checks
 use Rattle.matrix.specs.Check.{checked}
@@ -26,7 +25,7 @@ use Rattle.split.specs.Columns.{matrix_in}
 use Rattle.split.specs.declared.Divided.{Divided}
 use Rattle.split.specs.declared.Divided.TheVariants as divided
 use Rattle.split.specs.Operation as split
-use Rattle.split.proofs.Soundness.{taken_sound, taken_count, taken_known, few_taxa}
+use Rattle.split.proofs.Soundness.{taken_sound, taken_count, taken_known}
 use Rattle.tree.specs.declared.Built.{Built}
 use Rattle.tree.specs.declared.Built.TheVariants as built
 use Rattle.tree.specs.Build as build

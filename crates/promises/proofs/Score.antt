@@ -16,7 +16,6 @@ use Rattle.record.specs.Bytes.{File}
 use Rattle.record.specs.Records.{refused}
 use Rattle.record.specs.declared.Passed.{Passed}
 use Rattle.record.specs.declared.Passed.TheVariants as passed
-use Rattle.matrix.specs.declared.Column.{Column}
 use Rattle.matrix.specs.declared.Checked.{Checked}
 use Rattle.matrix.specs.declared.Checked.TheVariants as checks
 use Rattle.matrix.specs.Matrix.{column_in, matrix_of}

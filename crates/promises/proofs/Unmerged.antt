@@ -1,16 +1,16 @@
 -- A matrix file without multiplicities ("where it's absent, all are 1") has the answer, the splits and the score that it had before document 02's C-14:
 -- those of the definitions over counts of taxa (method/specs/Counted.antt).
-use mathlib.Core.Path.{◌≡◌, refl, sym, ap, ◌∙◌, fun_ext}
+use mathlib.Core.Path.{◌≡◌, refl, ap, ◌∙◌, fun_ext}
 use mathlib.Core.Bool.{Bool, false, cond}
 use mathlib.Core.List.{List, []}
 use Prim.Native.Nat.{ℕ}
-use lib.ListN.{length, take, drop}
+use lib.ListN.{take, drop}
 use Rattle.taxa.specs.Sets.{◌∩◌, ◌∖◌, unit, multiplicity, count}
 use Rattle.record.specs.Bytes.{File, number_at}
 use Rattle.matrix.specs.declared.Column.{Column}
 use Rattle.matrix.specs.Matrix.{has_multiplicities, multiplicity_count, multiplicities_in, matrix_of}
 use Rattle.method.specs.Split.{side, split_cost, parted}
-use Rattle.method.specs.Tree.{Matrix, Answer, answer}
+use Rattle.method.specs.Tree.{Answer, answer}
 use Rattle.method.specs.Counted as counted
 use Rattle.method.proofs.Counted.{side_before, cost_before, answer_before}
 use Rattle.split.specs.Columns.{matrix_in}

@@ -1,5 +1,4 @@
 // The operations on an answer, each called and nothing else: one that promised less, or that required something, would break a proof here.
-// Of the list of entries the callers are proved by hand, as every function that has it.
 ghost use Rattle.answer.specs.Reading.{Reads};
 ghost use Rattle.answer.specs.Writing.{WritesLists};
 ghost use Rattle.record.specs.Bytes.{File};

@@ -1,5 +1,4 @@
 -- `promises::operations::search` meets its contract: what the search promises, with the method's split of sets of 64 taxa.
-use borrow.Author.Rules.{rules}
 use mathlib.Core.Path.{refl}
 use Rattle.split.proofs.Dividing.{found_split}
 use Rattle.promises.proofs.operations.search.Goals as goal
