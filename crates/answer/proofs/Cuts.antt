@@ -1,7 +1,7 @@
 -- What is given past the counts plays no part in the tests: `groups_cut`, `flips_cut`, `sum_cut`; nor in the file: `groups_file_cut`, `flips_file_cut`.
 use mathlib.Core.Path.{◌≡◌, sym}
 use mathlib.Core.List.{List, ◌++◌}
-use Prim.Native.Nat.{ℕ, ◌+◌, ◌<◌}
+use Prim.Native.Nat.{ℕ, ◌<◌}
 use native.Mathlib.Omega.{arith}
 use lib.ListN.{get_or, take}
 use lib.Seq.{get_or-take}

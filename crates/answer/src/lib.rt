@@ -2,6 +2,7 @@
 // Promises: every byte string is taken or refused as document 01 says, what is written is the file of what is given, and
 // file and content determine each other. Rests on taxa and record.
 #![tactic(auto)]
+
 mod given;
 pub mod reader;
 mod rules;

@@ -1,6 +1,6 @@
--- Rows of numbers and of flips: what the walks over a list of flips know of the lists that they hold.
+-- Rows of numbers and of flips: what the loops over a list of flips know of the lists that they fill.
 --     set_next             the first k elements are replaced, and then element k: the first k + 1 are.        length_over, within_over      that many elements stay, and k is below
---     …-copied             the same where the elements are one number of each flip
+--     …_copied             the same where the elements are one number of each flip
 --     long_zipped, zipped_at       of three rows as one
 use mathlib.Core.Path.{◌≡◌, refl, sym, ◌∙◌, ap, subst}
 use Prim.Native.Nat.{ℕ, zero, suc, ◌<◌, ◌≤◌, zero-le}

@@ -1,7 +1,8 @@
 // The flip list as a lent list of entries: document 01's form of the operations "read an answer" and "write an answer".
 // Promises: what crate answer promises of the list in three parts, of the entries of one list.
-// Rests on answer and record. A function that has the list is proved by hand, so it only fills it or takes it apart.
+// Rests on answer and record. A function that has the list only fills it or takes it apart.
 #![tactic(auto)]
+
 ghost use Rattle.std.specs.Prelude.{◌≡◌, ◌≤◌, min, length, take};
 ghost use Rattle.answer.specs.Content.{content_of};
 ghost use Rattle.answer.specs.Writing.{Writes};

@@ -1,5 +1,4 @@
-// The operations on an answer file, as C calls them. A function that has a list of entries, or a value behind a reference, is proved by hand, so these
-// two only call.
+// The operations on an answer file, as C calls them: these two only call.
 ghost use Rattle.flipcut.specs.Packed.{ReadsPacked, WritesPacked};
 
 use super::pack;

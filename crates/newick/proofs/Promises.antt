@@ -107,7 +107,7 @@ module _ {text matrix names : List ℕ} (l : Leaves text matrix names) where
     unfolding output_after over
     leaves_files = (
       l.matrix_bytes ∙ rw (l.reads.matrix_output, took, trees_accepted s) (take_at (file_of (matrix_of_trees ts)) _ (matrix_room ts) refl),
-      l.names_bytes_lem ∙ rw (l.reads.names_output, took, trees_accepted s) (take_at (list_of (taxa ts)) _ (names_room ts) refl),
+      l.names_bytes ∙ rw (l.reads.names_output, took, trees_accepted s) (take_at (list_of (taxa ts)) _ (names_room ts) refl),
     )
 
     -- The check takes the matrix: its taxa are the names, its columns the trees' columns, of weight 1.

@@ -47,7 +47,7 @@ pub record Leaves (text matrix names : List ℕ) : Type 0 where
   pub reads : Reads text matrix_output names_output r matrix_output' names_output'
   pub success : (returned r).number ≡ 0
   pub matrix_bytes : matrix ≡ take (returned r).matrix matrix_output'
-  pub names_bytes_lem : names ≡ take (returned r).names names_output'
+  pub names_bytes : names ≡ take (returned r).names names_output'
 
 -- What column c says of taxon i, by its name and by the vertex that gave the column, "as source document 001 has it".
 pub record Encodes (i : ℕ) (name : Bytes) (c : matrix.Column) (vertex : Column) : Type 0 where

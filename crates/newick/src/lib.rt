@@ -2,6 +2,7 @@
 // Promises: for any text and any lengths of the outputs, every number and every byte is that of specs/Read.antt.
 // Rests on taxa, record, matrix, grammar, ledger and names.
 #![tactic(auto)]
+
 mod hints;
 mod list;
 mod reader;

@@ -52,8 +52,8 @@ module _ {M : Type 1} {𝓤 : Ura M} (𝓛 : Logic 𝓤) (S : Signature) (c : Sp
     abbrev R : RattleType
     R = type_at S.result y.0.0
 
-    shown : (r : Res S y.0.0) → ent 𝓤 (Owed r) (sem 𝓛 (R.own r (v ∷ [])))
-    shown r = via 𝓤 (Back 𝓛 S y.0 v r) (fst∗ 𝓤 (Back 𝓛 S y.0 v r) ((c y.0.0 y.0.3).ensures y.1 r)) (snd∗ 𝓤 (alive 𝓛 S y.0.0 y.0.1) (sem 𝓛 (R.own r (v ∷ []))))
+    shown : (r : Res S y.0.0) → ent 𝓤 (Owed r) (sem 𝓛 (R.own_val r (v ∷ [])))
+    shown r = via 𝓤 (Back 𝓛 S y.0 v r) (fst∗ 𝓤 (Back 𝓛 S y.0 v r) ((c y.0.0 y.0.3).ensures y.1 r)) (snd∗ 𝓤 (alive 𝓛 S y.0.0 y.0.1) (sem 𝓛 (R.own_val r (v ∷ []))))
 
     pub returned : {K : Type 0} {Γ : List (Item 𝓤)} {G : Goal 𝓤 H} → K → Soaks G → ((r : Res S y.0.0) → Is R r (v ∷ []) → Seq K 𝓛 (raw (Owed r) ∷ Γ) G) → Seq K 𝓛 (raw (It.post y v) ∷ Γ) G
     returned t z k = use1 𝓛 (later (some (λ r. raw (Owed r)))) (id⊢ 𝓤 (It.post y v)) $ await t z $ pick t (λ r.

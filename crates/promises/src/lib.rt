@@ -3,6 +3,7 @@
 // operations, so that the theorems rest on contracts which the operations have.
 // Rests on taxa, method, record, grammar, matrix, answer, entries, search, split, tree, score, names, newick, spelling and flipcut.
 #![tactic(auto)]
+
 pub mod answer_operations;
 pub mod half_operations;
 pub mod newick_operations;

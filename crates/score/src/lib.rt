@@ -2,6 +2,7 @@
 // Promises: for any two byte strings, raises and lowers are those of specs/Score.antt, or the one refusal that document 01
 // assigns. Flips count the specimens that their taxa stand for. Rests on taxa, record, matrix and answer.
 #![tactic(auto)]
+
 ghost use Rattle.std.specs.Prelude.{◌≡◌, ℕ, ◌*◌, ◌≤◌, ◌<◌, ◌+◌, length, get_or};
 ghost use Rattle.taxa.specs.Sets.{multiplicity_in};
 ghost use Rattle.matrix.specs.Matrix.{columns_at, column_in};

@@ -21,8 +21,8 @@ use Rattle.taxa.proofs.Planes.{in_small}
 use Rattle.method.proofs.Carry.{same?}
 use Rattle.search.specs.Search.{nth}
 use Rattle.search.specs.inner.Network.{flow_most, weight_most, Unused}
-use Rattle.search.specs.inner.Trying.{Limits, tie, ties, weighs, Ties, Weighed, Few, SameLimits, ColumnAdded, Added, Loose}
-use Rattle.search.proofs.Reaching.{gone_one, still_in}
+use Rattle.search.specs.inner.Trying.{Limits, tie, Ties, Weighed, Few, SameLimits, ColumnAdded, Added, Loose}
+use Rattle.search.proofs.Reaching.{still_in}
 
 cond_most : (p : Bool) (w : ℕ) → cond p w 0 ≤ w
 cond_most true w = omega arith

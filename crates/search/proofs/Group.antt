@@ -12,12 +12,12 @@ use lib.IntN.{ℤ, pos}
 use lib.ListN.{length, get_or}
 use lib.Pow.{pow_mono, pow-lt}
 use borrow.Author.Tests.{lt-ltb, le-ltb, ltb-true}
-use Rattle.taxa.specs.Sets.{has, ◌∈◌, ◌∉◌, ◌⊆◌, ◌∩◌, ◌∖◌, mass, count, sizes, low, multiplicity_in}
+use Rattle.taxa.specs.Sets.{has, ◌∈◌, ◌∉◌, ◌⊆◌, ◌∩◌, ◌∖◌, count, sizes, low, multiplicity_in}
 use Rattle.taxa.proofs.Ranks.{sizes_≡}
 use Rattle.taxa.proofs.Members.{in_pow, out, in∩, in∖, ∩-≤, none, below, low_in, low_≤, low_width, ⊆-≤, ∖-⊆}
 use Rattle.taxa.proofs.Counts.{count_pos, count_some, count_width}
 use Rattle.taxa.proofs.Masses.{mass_in, mass_width}
-use Rattle.method.specs.Split.{Division, division_cost, side}
+use Rattle.method.specs.Split.{Division, division_cost}
 use Rattle.method.specs.Flow.{joined, arc_count, cap, through, cut_cost, Flow, Reach, start, step}
 use Rattle.method.specs.inner.Sources.{FlowFrom}
 use Rattle.method.proofs.Sources.{as_one, reach_one, one_reach}

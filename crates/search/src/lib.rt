@@ -2,6 +2,7 @@
 // Promises that a flow of the division's cost stands there, that side A is what hops reach past it, and that cost, A and t are what listing gives.
 // Rests on taxa and on method; signed numbers are confined to module net.
 #![tactic(auto)]
+
 pub mod net;
 mod push;
 mod reach;

@@ -2,6 +2,7 @@
 // Promises: for any two byte strings and any lent output the answer and every byte are those of specs/Write.antt; proofs/Promises.antt has what the text
 // says. Rests on taxa, record, answer, grammar, clades and names.
 #![tactic(auto)]
+
 mod spell;
 
 ghost use Rattle.std.specs.Prelude.{◌≡◌, length};

@@ -12,7 +12,7 @@ use lib.Dec.{eqb}
 use lib.ListN.{length, get_or}
 use borrow.Author.Tests.{eqb-true, eqb-false, eq-eqb, ne_eqb}
 use Rattle.taxa.specs.Sets.{◌∈◌, ◌⊆◌, ◌∩◌, ◌∪◌, ◌∖◌, mass, Positive, low}
-use Rattle.taxa.proofs.Members.{in∩, in∖, in∪, ext, empty, none, ⊆-refl, ⊆-trans, ∪-⊆, ∩-⊆ʳ, ∩-≤, ⊆-≤, pow_⊆, in_pow, pow_in, low_in}
+use Rattle.taxa.proofs.Members.{in∩, in∖, in∪, ext, empty, ⊆-refl, ⊆-trans, ∪-⊆, ∩-⊆ʳ, ∩-≤, ⊆-≤, pow_⊆, in_pow, pow_in, low_in}
 use Rattle.taxa.proofs.Masses.{mass_none}
 use Rattle.method.specs.Split.{Column, share, Linked, start, step, part}
 use Rattle.method.proofs.Parts.{Apart, part_is}

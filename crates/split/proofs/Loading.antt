@@ -4,7 +4,7 @@ use mathlib.Core.Path.{◌≡◌, sym, ap, ◌∙◌, fun_ext}
 use mathlib.Core.List.{List}
 use Prim.Native.Nat.{ℕ, ◌+◌, ◌≤◌, ◌<◌}
 use native.Mathlib.Omega.{arith}
-use lib.ListN.{length, get_or, set, length-map, get_or-map, get_or-eq_default}
+use lib.ListN.{length, set, length-map, get_or-map, get_or-eq_default}
 use Rattle.taxa.specs.Sets.{count, sizes}
 use Rattle.taxa.proofs.Ranks.{sizes_next}
 use Rattle.matrix.specs.declared.Column as matrix

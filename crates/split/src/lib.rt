@@ -2,6 +2,7 @@
 // Promises: flips and parts are the method's, column by column and part by part; the operation answers as document 01 says, for any bytes.
 // Rests on taxa, record, matrix, method and search.
 #![tactic(auto)]
+
 pub mod columns;
 pub mod group;
 mod parts;

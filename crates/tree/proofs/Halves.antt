@@ -6,7 +6,7 @@ use mathlib.Core.List.{List}
 use mathlib.Core.Logic.{◌≢◌}
 use Prim.Native.Nat.{ℕ, ◌≤◌}
 use native.Mathlib.Omega.{arith}
-use lib.Dec.{ltb, eqb}
+use lib.Dec.{ltb}
 use borrow.Author.Tests.{eq-eqb, le-ltb}
 use Rattle.record.specs.Bytes.{File, equal}
 use Rattle.record.specs.Records.{refused}
@@ -23,7 +23,7 @@ use Rattle.answer.proofs.Encoding.{file_holds, file_taken}
 use Rattle.method.specs.Tree.{one_entries}
 use Rattle.split.specs.Columns.{matrix_in}
 use Rattle.split.proofs.Soundness.{taken_sound, taken_known, taken_count, few_taxa}
-use Rattle.tree.specs.declared.Built.TheVariants.{Taken, Refused}
+use Rattle.tree.specs.declared.Built.TheVariants.{Refused}
 use Rattle.tree.specs.Build.{tree_for, tree_room, room_for, written, taken_of, answered, built}
 use Rattle.tree.specs.Tree.{tree_answered, tree_given}
 use Rattle.tree.specs.Flips.{tree_file, agreed, flips_answered, flips_given, then_flips, one_after_the_other}

@@ -2,6 +2,7 @@
 // Promises: for any bytes and any lengths of the lent buffers, every number and every byte is that of specs/Build.antt, specs/Tree.antt and
 // specs/Flips.antt. Rests on taxa, method, record, matrix, answer, search and split.
 #![tactic(auto)]
+
 mod answers;
 mod groups;
 mod grow;

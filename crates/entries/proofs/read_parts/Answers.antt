@@ -1,5 +1,4 @@
 -- `entries::read_parts` meets its contract: crate answer reads into the first of the three parts, as many as the list has entries, at most 256.
-use borrow.Author.Rules.{rules}
 use mathlib.Core.Path.{sym}
 use native.Mathlib.Omega.{arith}
 use lib.Seq.{length-take-le}

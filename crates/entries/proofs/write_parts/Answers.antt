@@ -1,5 +1,4 @@
 -- `entries::write_parts` meets its contract: crate answer writes from the first of the three parts, as many as are counted.
-use borrow.Author.Rules.{rules}
 use mathlib.Core.Path.{◌≡◌, sym}
 use mathlib.Core.List.{List}
 use Prim.Native.Nat.{ℕ, ◌≤◌}

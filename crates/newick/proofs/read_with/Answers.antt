@@ -1,5 +1,4 @@
 -- `newick::read_with` meets its contract.
-use borrow.Author.Rules.{rules}
 use Rattle.newick.proofs.Book.{ended_well, ended_ill}
 use Rattle.newick.proofs.Finding.{found, told}
 use Rattle.newick.proofs.read_with.Goals as goal

@@ -15,7 +15,7 @@ returns-then-names-list c =
 pub put_list-requires : goal.put_list-requires
 put_list-requires c =
     let pre = c.requires in
-    ((pre.placed, pre.placed.short), omega (arith, c.list_length-list.ensures _ _ pre.placed))
+    record { placed = (pre.placed, pre.placed.short); n_in_bounds = omega (arith, c.list_length-list.ensures _ _ pre.placed) }
 
 pub returns : goal.returns
 returns c =

@@ -1,5 +1,4 @@
 -- `score::distance` meets its contract: a weight below 2^16 times at most 16,256 fits.
-use borrow.Author.Rules.{rules}
 use native.Mathlib.Nat.{mul-le-mul_left}
 use native.Mathlib.Omega.{arith}
 use Prim.Native.Nat.{◌+◌, ◌≤◌}

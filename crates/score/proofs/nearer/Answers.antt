@@ -1,5 +1,4 @@
 -- `score::nearer` meets its contract: each return is a row of `nearer`.
-use borrow.Author.Rules.{rules}
 use native.Mathlib.Omega.{arith}
 use Rattle.score.proofs.Nearest.{less, more, equal}
 use Rattle.score.proofs.nearer.Goals as goal

@@ -2,10 +2,8 @@
 use borrow.Author.Rules.{rules}
 use native.Mathlib.Omega.{arith}
 use mathlib.Core.Path.{◌≡◌, refl}
-use Prim.Native.Nat.{◌-◌, ◌≤◌}
-use Rattle.taxa.specs.Sets.{multiplicity_in}
 use Rattle.score.proofs.Nearest.{one_more}
-use Rattle.score.specs.Score.{nearest_in, leaf}
+use Rattle.score.specs.Score.{nearest_in}
 use Rattle.score.proofs.nearest_leaf.Goals as goal
 
 pub loop-i-init : goal.loop-i-init

@@ -1,10 +1,7 @@
 -- `score::nearest_leaf` meets its contract. The invariant: `best` counts among those passed.
-use borrow.Author.Rules.{rules}
-use native.Mathlib.Omega.{arith}
-use mathlib.Core.Path.{◌≡◌, refl}
+use mathlib.Core.Path.{◌≡◌}
 use Prim.Native.Nat.{◌-◌, ◌≤◌}
 use Rattle.taxa.specs.Sets.{multiplicity_in}
-use Rattle.score.proofs.Nearest.{one_more}
 use Rattle.score.specs.Score.{nearest_in, leaf}
 use Rattle.score.proofs.nearest_leaf.Given as goal
 

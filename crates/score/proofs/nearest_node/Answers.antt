@@ -2,9 +2,6 @@
 use borrow.Author.Rules.{rules}
 use native.Mathlib.Omega.{arith}
 use mathlib.Core.Path.{◌≡◌, refl}
-use Prim.Native.Nat.{◌-◌, ◌≤◌}
-use lib.ListN.{get_or}
-use Rattle.taxa.specs.Sets.{multiplicity_in}
 use Rattle.score.proofs.Nearest.{one_more}
 use Rattle.score.specs.Score.{nearest_in}
 use Rattle.score.proofs.nearest_node.Goals as goal

@@ -1,11 +1,8 @@
 -- `score::nearest_node` meets its contract. The invariant: `best` counts among those passed.
-use borrow.Author.Rules.{rules}
-use native.Mathlib.Omega.{arith}
-use mathlib.Core.Path.{◌≡◌, refl}
+use mathlib.Core.Path.{◌≡◌}
 use Prim.Native.Nat.{◌-◌, ◌≤◌}
 use lib.ListN.{get_or}
 use Rattle.taxa.specs.Sets.{multiplicity_in}
-use Rattle.score.proofs.Nearest.{one_more}
 use Rattle.score.specs.Score.{nearest_in}
 use Rattle.score.proofs.nearest_node.Given as goal
 

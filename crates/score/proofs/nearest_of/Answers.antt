@@ -1,5 +1,4 @@
 -- `score::nearest_of` meets its contract, by its test.
-use borrow.Author.Rules.{rules}
 use Rattle.score.proofs.nearest_of.Goals as goal
 
 pub returns-then-nearer : goal.returns-then-nearer

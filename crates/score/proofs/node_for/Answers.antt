@@ -1,5 +1,4 @@
 -- `score::node_for` meets its contract: the leaf that counts, then the groups.
-use borrow.Author.Rules.{rules}
 use Rattle.score.specs.Score.{node_for}
 use Rattle.score.proofs.node_for.Goals as goal
 

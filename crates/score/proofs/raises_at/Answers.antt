@@ -1,5 +1,4 @@
 -- `score::raises_at` meets its contract, by what it calls.
-use borrow.Author.Rules.{rules}
 use mathlib.Core.Path.{ap, ◌∙◌}
 use Rattle.taxa.specs.Sets.{mass}
 use Rattle.score.proofs.raises_at.Goals as goal

@@ -1,31 +1,19 @@
 -- `score::score` meets its contract: the matrix's refusal, the answer's, or what two files that were read come to.
-use borrow.Author.Rules.{rules}
-use mathlib.Core.Path.{◌≡◌, sym, ap, ◌∙◌}
+use mathlib.Core.Path.{sym, ap, ◌∙◌}
 use Rattle.record.specs.Records.{passed_refusal}
-use Rattle.record.specs.declared.Passed.TheVariants.{At, Refused}
-use Rattle.matrix.specs.declared.Checked.TheVariants.{Taken}
-use Rattle.matrix.specs.Check.{checked}
-use Rattle.answer.specs.Reading.{file_tests}
+use Rattle.record.specs.declared.Passed.TheVariants.{Refused}
 use Rattle.score.proofs.Scoring.{matrix_refused, answer_refused, both_read}
 use Rattle.score.proofs.score.Goals as goal
 
--- The matrix was taken.
-checks : (c : goal.In-Taken) → Taken c.in-Taken.n c.in-Taken.m ≡ checked c.args.matrix.now
-checks c = sym c.in-Taken.is ∙ c.check-checked.ensures.answers
-
--- And so was the answer.
-passes : (c : goal.In-At) → At c.in-At.field-0 ≡ file_tests c.args.answer.now
-passes c = sym c.in-At.is ∙ c.pass_file-passed.ensures
-
 pub returns-in_default : goal.returns-in_default
 returns-in_default c =
-    answer_refused _ _ (checks c.before.before.before.before) (ap Refused (c.refusal.ensures ∙ ap passed_refusal c.in_default.is) ∙ sym c.in_default.is ∙ c.pass_file-passed.ensures)
+    answer_refused _ _ (sym c.in-Taken.is ∙ c.check-checked.ensures.answers) (ap Refused (c.refusal.ensures ∙ ap passed_refusal c.in_default.is) ∙ sym c.in_default.is ∙ c.pass_file-passed.ensures)
 
 pub score_read-requires : goal.score_read-requires
-score_read-requires c = record { taken = checks c.before.before.before; here = _; passes = passes c }
+score_read-requires c = record { taken = sym c.in-Taken.is ∙ c.check-checked.ensures.answers; here = _; passes = sym c.in-At.is ∙ c.pass_file-passed.ensures }
 
 pub returns-in-Refused : goal.returns-in-Refused
 returns-in-Refused c = matrix_refused _ _ (sym c.in-Refused.is ∙ c.check-checked.ensures.answers)
 
 pub returns-in-At : goal.returns-in-At
-returns-in-At c = both_read _ _ (checks c.before.before.before.before) (passes c.before) c.score_read.ensures
+returns-in-At c = both_read _ _ (sym c.in-Taken.is ∙ c.check-checked.ensures.answers) (sym c.in-At.is ∙ c.pass_file-passed.ensures) c.score_read.ensures

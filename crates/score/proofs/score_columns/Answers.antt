@@ -2,12 +2,8 @@
 use borrow.Author.Rules.{rules}
 use native.Mathlib.Omega.{arith}
 use mathlib.Core.Path.{◌≡◌, refl}
-use Prim.Native.Nat.{◌-◌, ◌*◌, ◌≤◌}
 use Rattle.taxa.specs.Sum.{sum}
-use Rattle.taxa.specs.Sets.{multiplicity_in}
-use Rattle.matrix.specs.Matrix.{column_in}
-use Rattle.score.specs.Score.{node_for, raises_of, lowers_of}
-use Rattle.score.specs.inner.Light.{column_most}
+use Rattle.score.specs.Score.{raises_of, lowers_of}
 use Rattle.score.proofs.Columns.{raises_next, lowers_next}
 use Rattle.score.proofs.score_columns.Goals as goal
 
@@ -24,12 +20,12 @@ loop-c-preserved c =
     let node = c.node_for.ensures in
     let it = c.column_in-it.ensures in
     let l = c.loop-c in
-    let up = rw (node, it) at c.with_column-sum.ensures.0 in
-    let down = rw (node, it) at c.with_column-sum.ensures.1 in
+    let up = rw (node, it) at c.with_column-sum.ensures.raised in
+    let down = rw (node, it) at c.with_column-sum.ensures.lowered in
     (search rules, rw (raises_next, ← l.invariant.1) up.0, rw (lowers_next, ← l.invariant.2) down.0, omega arith, omega arith)
 
 pub returns : goal.returns
 returns c =
     let l = c.loop-c in
     let all : l.c ≡ c.args.m = omega arith in
-    rw (← all) ((l.invariant.1, l.invariant.3), (l.invariant.2, l.invariant.4))
+    rw (← all) (record { raised = (l.invariant.1, l.invariant.3); lowered = (l.invariant.2, l.invariant.4) })

@@ -1,14 +1,10 @@
 -- `score::score_columns` meets its contract. The invariant: the sums are those of the columns passed, at most `column_most` each.
-use borrow.Author.Rules.{rules}
-use native.Mathlib.Omega.{arith}
-use mathlib.Core.Path.{◌≡◌, refl}
+use mathlib.Core.Path.{◌≡◌}
 use Prim.Native.Nat.{◌-◌, ◌*◌, ◌≤◌}
-use Rattle.taxa.specs.Sum.{sum}
 use Rattle.taxa.specs.Sets.{multiplicity_in}
 use Rattle.matrix.specs.Matrix.{column_in}
 use Rattle.score.specs.Score.{node_for, raises_of, lowers_of}
 use Rattle.score.specs.inner.Light.{column_most}
-use Rattle.score.proofs.Columns.{raises_next, lowers_next}
 use Rattle.score.proofs.score_columns.Given as goal
 
 abbrev pub invariant-loop-c : goal.invariant-loop-c

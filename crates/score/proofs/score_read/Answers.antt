@@ -1,22 +1,14 @@
 -- `score::score_read` meets its contract: each return is a row of `agreed`.
-use borrow.Author.Rules.{rules}
 use native.Mathlib.Omega.{arith}
 use Rattle.record.specs.Bytes.{File}
-use Rattle.answer.proofs.Outcomes.{Laid, laid, groups_placed}
+use Rattle.answer.proofs.Outcomes.{laid, groups_placed}
 use Rattle.matrix.proofs.Taken.{taken_legal, taken_length, taken_taxa, taken_columns, taken_multiplied}
 use Rattle.score.proofs.Light.{taken_light}
 use Rattle.score.proofs.Scoring.{other_taxa, other_columns, taken_row}
 use Rattle.score.proofs.score_read.Goals as goal
 
--- The matrix file is one of bytes, and the answer's parts lie in its file.
-bytes : (c : goal.After-shared_slice_known-2-1) → File c.args.matrix.now
-bytes c = record { byte = λ i. omega (arith, c.type_inv.matrix i) }
-
-lies : (c : goal.After-shared_slice_known-2-1) → Laid c.args.answer.now
-lies c = laid _ c.requires.passes
-
 pub answer_in-value-requires : goal.answer_in-value-requires
-answer_in-value-requires c = let l = lies c in (omega (arith, l.head_kept.few, l.head_kept.fewer), l.flips_at)
+answer_in-value-requires c = let l = laid _ c.requires.passes in (omega (arith, l.head_kept.few, l.head_kept.fewer), l.flips_at)
 
 pub returns-then-value-n : goal.returns-then-value-n
 returns-then-value-n c = other_taxa _ _ _ _ c.answer_in-value.ensures (omega arith)
@@ -25,15 +17,15 @@ pub returns-then-value-m : goal.returns-then-value-m
 returns-then-value-m c = other_columns _ _ _ _ c.answer_in-value.ensures (omega arith) (omega arith)
 
 pub planes_in-planes-requires : goal.planes_in-planes-requires
-planes_in-planes-requires c = taken_multiplied (bytes c.before.before.before.before.before) c.requires.taken
+planes_in-planes-requires c = taken_multiplied (record { byte = λ i. omega (arith, c.type_inv.matrix i) }) c.requires.taken
 
 pub score_columns-sum-requires : goal.score_columns-sum-requires
 score_columns-sum-requires c =
-    let f = bytes c.before.before.before.before.before.before.before.before.before.before in
+    let f : File c.args.matrix.now = record { byte = λ i. omega (arith, c.type_inv.matrix i) } in
     let taken = c.requires.taken in
-    let l = lies c.before.before.before.before.before.before.before.before.before.before in
+    let l = laid _ c.requires.passes in
     (omega (arith, taken_columns f taken, (taken_legal f taken).columns_fit), omega (arith, taken_length f taken), omega (arith, taken_taxa f taken, (taken_legal f taken).taxa_fit), groups_placed _ c.answer_in-value.ensures (omega (arith, l.head_kept.few, l.head_kept.fewer)), rw c.planes_in-planes.ensures.0 (taken_light f taken))
 
 pub returns : goal.returns
 returns c =
-    taken_row _ _ _ _ c.answer_in-value.ensures c.planes_in-planes.ensures.0 (omega (arith, c.if-value-n.false)) (omega (arith, c.if-value-m.false)) c.score_columns-sum.ensures.0.0 c.score_columns-sum.ensures.1.0
+    taken_row _ _ _ _ c.answer_in-value.ensures c.planes_in-planes.ensures.0 (omega (arith, c.if-value-n.false)) (omega (arith, c.if-value-m.false)) c.score_columns-sum.ensures.raised.0 c.score_columns-sum.ensures.lowered.0

@@ -1,10 +1,8 @@
 -- `search::attempt` meets its contract: a taxon that is not in the group, one that is tied too fast, one that is parted for less, or for no less.
-use borrow.Author.Rules.{rules}
 use native.Mathlib.Omega.{arith}
-use mathlib.Core.Path.{◌≡◌, sym, ap, ◌∙◌}
-use mathlib.Core.Bool.{true}
+use mathlib.Core.Path.{sym, ap, ◌∙◌}
 use Prim.Native.Nat.{ℕ}
-use Rattle.taxa.specs.Sets.{has, all, ◌∩◌, sizes}
+use Rattle.taxa.specs.Sets.{all, ◌∩◌, sizes}
 use Rattle.taxa.proofs.Members.{in_pos, low_in}
 use Rattle.search.specs.Search.{nth}
 use Rattle.search.specs.inner.Flows.{Largest}
@@ -33,7 +31,7 @@ pub returns-then-cut-best : goal.returns-then-cut-best
 returns-then-cut-best c =
     let is_largest : (let a = c.args in
     Largest a.weights.now a.planes.now a.joined.now a.limits.now a.n a.m c.largest-cut.new.ws (a.group ∩ all a.u) a.u a.best.cost c.largest-cut.result.size c.largest-cut.result.side) =
-        rw (c.common.ensures ∙ ap (λ (y : ℕ). c.args.group ∩ y) c.all.ensures) at c.largest-cut.ensures.0 in
+    rw (c.common.ensures ∙ ap (λ (y : ℕ). c.args.group ∩ y) c.all.ensures) at c.largest-cut.ensures.0 in
     let a = c.args in
     let p = c.requires in
     let s = low_in a.n (in_pos (record { is = sym c.contains.ensures ∙ c.if-not-contains.false })) p.2 in
@@ -43,5 +41,5 @@ pub returns-else-cut-best : goal.returns-else-cut-best
 returns-else-cut-best c =
     let is_largest : (let a = c.args in
     Largest a.weights.now a.planes.now a.joined.now a.limits.now a.n a.m c.largest-cut.new.ws (a.group ∩ all a.u) a.u a.best.cost c.largest-cut.result.size c.largest-cut.result.side) =
-        rw (c.common.ensures ∙ ap (λ (y : ℕ). c.args.group ∩ y) c.all.ensures) at c.largest-cut.ensures.0 in
+    rw (c.common.ensures ∙ ap (λ (y : ℕ). c.args.group ∩ y) c.all.ensures) at c.largest-cut.ensures.0 in
     (λ bound r. tried_worse r (is_largest) (omega arith), c.largest-cut.ensures.1, c.largest-cut.ensures.2)

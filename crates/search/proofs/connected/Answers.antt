@@ -1,5 +1,4 @@
 -- `search::connected` meets its contract: it reaches past no flow.
-use borrow.Author.Rules.{rules}
 use native.Mathlib.Omega.{arith}
 use mathlib.Core.Bool.{true≢false}
 use mathlib.Core.Path.{sym, ◌∙◌}
@@ -14,8 +13,7 @@ reach-requires c =
 
 pub returns : goal.returns
 returns c =
-    let f = c.reach.ensures in
-    (
+    let f = c.reach.ensures in (
       record { low = f.0.tree.low; all = f.0.all (record { none = λ x h. absurd (true≢false (sym h ∙ has_none x)) }) },
       rw (c.requires.0.offsets.is c.args.m (omega arith)) at c.clear_places.ensures,
       record { counts = c.unused.ensures.long; tree = f.1 },

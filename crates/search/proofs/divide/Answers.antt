@@ -1,20 +1,14 @@
 -- `search::divide` meets its contract: the lists hold the group's network, the places are as many as it has arcs, and it is in parts already or flows
 -- decide.
-use borrow.Author.Rules.{rules}
 use native.Mathlib.Omega.{arith}
-use mathlib.Core.Path.{◌≡◌, sym, ◌∙◌}
-use mathlib.Core.List.{List}
-use Prim.Native.Nat.{ℕ, ◌≤◌, ◌<◌, ◌^◌}
+use mathlib.Core.Path.{sym, ◌∙◌}
+use Prim.Native.Nat.{◌≤◌}
 use lib.ListN.{length}
 use lib.Pow.{pow-lt}
-use Rattle.taxa.specs.Sets.{sizes, low}
+use Rattle.taxa.specs.Sets.{sizes}
 use Rattle.taxa.proofs.Counts.{count_pos}
 use Rattle.taxa.proofs.Members.{below}
-use Rattle.method.specs.Flow.{arc_count}
-use Rattle.search.specs.Search.{cols_of, nth, Spare, Lent}
-use Rattle.search.specs.Workspace.{Kept}
-use Rattle.search.specs.inner.Network.{Net}
-use Rattle.search.specs.inner.Trying.{Limits}
+use Rattle.search.specs.Search.{nth}
 use Rattle.search.proofs.Workspace.{cleared_kept, kept_then}
 use Rattle.search.proofs.Bonds.{limits_still}
 use Rattle.search.proofs.Group.{source_is, net, arcs_are, divided_free}
@@ -64,8 +58,7 @@ by_flows-requires c =
     let room : sizes a.m (nth c.network_of.new.joined) ≤ length a.ws.now = omega (arith, arcs, p.1) in
     let emptied = cleared_kept a.ws.now c.connected-met.ensures.1 room in
     -- What ties the taxa went behind the limits, which are as they were.
-    let still = limits_still g.columns c.ties_of.ensures.2 e.1 in
-    (
+    let still = limits_still g.columns c.ties_of.ensures.2 e.1 in (
       net g e.0 still c.offsets_of.ensures (λ k b. omega (arith, c.type_inv.weights k)),
       omega (arith, room, emptied.long),
       g.group,

@@ -1,19 +1,11 @@
 -- `search::network_of` meets its contract. The invariant: the places passed are filled, in both lists.
-use borrow.Author.Rules.{rules}
-use native.Mathlib.Omega.{arith}
-use mathlib.Core.Bool.{Bool, cond}
+use mathlib.Core.Bool.{cond}
 use mathlib.Core.List.{List}
-use mathlib.Core.Path.{◌≡◌, sym, ap, ap₂, ◌∙◌}
-use native.Mathlib.Decide.{dec_lt}
-use native.Mathlib.Nat.{mul-le-mul_right}
-use Prim.Native.Nat.{ℕ, ◌≤◌, ◌<◌, ◌-◌, ◌*◌, ◌^◌}
+use Prim.Native.Nat.{ℕ, ◌≤◌, ◌-◌, ◌*◌}
 use lib.Dec.{ltb}
-use borrow.Author.Tests.{lt-ltb, le-ltb}
 use Rattle.taxa.specs.Sets.{◌∩◌, mass, count, multiplicity_in}
-use Rattle.taxa.proofs.Counts.{count_pos, count_zero}
-use Rattle.taxa.proofs.Members.{∩-≤}
 use Rattle.search.specs.Search.{nth}
-use Rattle.search.proofs.Tables.{Table, table_start, table_next}
+use Rattle.search.proofs.Tables.{Table}
 use Rattle.search.proofs.network_of.Given as goal
 
 -- What stands in each place.

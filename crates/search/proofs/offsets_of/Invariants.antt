@@ -1,13 +1,9 @@
 -- `search::offsets_of` meets its contract. The invariant: the offsets of the columns below c stand, and the sum is that of c.
-use borrow.Author.Rules.{rules}
-use native.Mathlib.Omega.{arith}
-use mathlib.Core.Path.{◌≡◌, refl}
-use Prim.Native.Nat.{ℕ, ◌+◌, ◌-◌, ◌≤◌}
-use Rattle.taxa.specs.Sum.{sum}
+use mathlib.Core.Path.{◌≡◌}
+use Prim.Native.Nat.{◌-◌, ◌≤◌}
 use Rattle.taxa.specs.Sets.{sizes}
-use Rattle.taxa.proofs.Ranks.{sizes_next, sizes_few}
 use Rattle.search.specs.Search.{nth}
-use Rattle.search.proofs.Tables.{Table, table_start, table_next}
+use Rattle.search.proofs.Tables.{Table}
 use Rattle.search.proofs.offsets_of.Given as goal
 
 abbrev pub invariant-loop-c : goal.invariant-loop-c

@@ -1,5 +1,4 @@
 -- `split::split` meets its contract: the file's refusal, or the answer for a matrix that is taken.
-use borrow.Author.Rules.{rules}
 use mathlib.Core.Path.{sym, ◌∙◌}
 use Rattle.split.proofs.Answering.{left_alone, file_refused, outcome}
 use Rattle.split.proofs.split.Goals as goal

@@ -1,11 +1,8 @@
 -- `split::split_matrix` meets its contract: each return is a row of the operation's table.
-use borrow.Author.Rules.{rules}
 use native.Mathlib.Omega.{arith}
 use mathlib.Core.Path.{◌≡◌, refl, sym, ◌∙◌}
-use Prim.Native.Nat.{◌≤◌}
 use lib.ListN.{length}
 use lib.Seq.{length-take-le}
-use borrow.Author.Tests.{not-true, not-false}
 use Rattle.taxa.specs.Sets.{within, all}
 use Rattle.taxa.proofs.Members.{within_⊆}
 use Rattle.record.specs.Bytes.{File}
@@ -14,81 +11,88 @@ use Rattle.split.proofs.Soundness.{few_taxa, few_columns, can_load}
 use Rattle.split.proofs.Answering.{one_taxon, unknown_taxon, no_room, all_tested, cleared_after, left_alone}
 use Rattle.split.proofs.split_matrix.Goals as goal
 
--- The file's elements are bytes.
-bytes : (c : goal.After-shared_slice_known-1) → File c.args.file.now
-bytes c = record { byte = λ i. omega (arith, c.type_inv.file i) }
-
--- Here nothing is refused.
-splittable : (c : goal.Else-workspace-needed) →
-    let args = c.args in
-    Splittable args.file.now args.group args.n args.m (length args.workspace.now)
-splittable c =
-    let tested : (let args = c.args in
-    within args.group (all args.n) ≡ c.subset.result) =
-        rw (← c.all.ensures) (sym c.subset.ensures) in
-    record {
-      taken = c.requires;
-      two = omega arith;
-      known = (within_⊆ _ _).0 (tested ∙ not-false _ c.if-not-subset.false);
-      long = omega (arith, c.if-workspace-needed.false, c.one_entries-needed.ensures);
-    }
-
-m_fits : (c : goal.Else-workspace-needed) → c.args.m ≤ 256
-m_fits c = few_columns (bytes c.before.before.before.before.before.before.before) c.requires
-
 pub returns-then-size-lt2 : goal.returns-then-size-lt2
 returns-then-size-lt2 c = (one_taxon _ _ _ _ _ (omega arith), left_alone _ _ _)
 
 pub overflow_cast-n : goal.overflow_cast-n
-overflow_cast-n c = omega (arith, few_taxa (bytes c.before.before) c.requires)
+overflow_cast-n c =
+    let bytes : File c.args.file.now = record { byte = λ i. omega (arith, c.type_inv.file i) } in
+    omega (arith, few_taxa bytes c.requires)
 
 pub all-requires : goal.all-requires
-all-requires c = few_taxa (bytes c.before.before) c.requires
+all-requires c =
+    let bytes : File c.args.file.now = record { byte = λ i. omega (arith, c.type_inv.file i) } in
+    few_taxa bytes c.requires
 
 pub returns-then-not-subset : goal.returns-then-not-subset
 returns-then-not-subset c =
-    let tested : (let args = c.args in
-    within args.group (all args.n) ≡ c.subset.result) =
-        rw (← c.all.ensures) (sym c.subset.ensures) in
-    (unknown_taxon _ _ _ _ _ (tested ∙ not-true _ c.if-not-subset.true), left_alone _ _ _)
+    let tested : within c.args.group (all c.args.n) ≡ c.subset.result = rw (← c.all.ensures) (sym c.subset.ensures) in
+    (unknown_taxon _ _ _ _ _ (tested ∙ c.if-not-subset.true), left_alone _ _ _)
 
 pub one_entries-needed-requires : goal.one_entries-needed-requires
 one_entries-needed-requires c =
-    let fits = can_load (bytes c.before.before.before.before.before) c.requires refl in
-    (fits.0, fits.1, few_columns (bytes c.before.before.before.before.before) c.requires)
+    let bytes : File c.args.file.now = record { byte = λ i. omega (arith, c.type_inv.file i) } in
+    let fits = can_load bytes c.requires refl in
+    (fits.0, fits.1, few_columns bytes c.requires)
 
 pub returns-then-workspace-needed : goal.returns-then-workspace-needed
 returns-then-workspace-needed c =
-    let tested : (let args = c.args in
-    within args.group (all args.n) ≡ c.subset.result) =
-        rw (← c.all.ensures) (sym c.subset.ensures) in
-    (no_room _ _ _ _ _ (omega arith) (tested ∙ not-false _ c.if-not-subset.false) (omega (arith, c.if-workspace-needed.true, c.one_entries-needed.ensures)), left_alone _ _ _)
+    let tested : within c.args.group (all c.args.n) ≡ c.subset.result = rw (← c.all.ensures) (sym c.subset.ensures) in
+    (no_room _ _ _ _ _ (omega arith) (tested ∙ c.if-not-subset.false) (omega (arith, c.if-workspace-needed.true, c.one_entries-needed.ensures)), left_alone _ _ _)
 
 pub slice_bounds-weights-end : goal.slice_bounds-weights-end
-slice_bounds-weights-end c = m_fits c
+slice_bounds-weights-end c =
+    let bytes : File c.args.file.now = record { byte = λ i. omega (arith, c.type_inv.file i) } in
+    few_columns bytes c.requires
 
 pub slice_bounds-split_loaded-end : goal.slice_bounds-split_loaded-end
-slice_bounds-split_loaded-end c = sym (length-take-le _ _ (m_fits c.before))
+slice_bounds-split_loaded-end c =
+    let bytes : File c.args.file.now = record { byte = λ i. omega (arith, c.type_inv.file i) } in
+    sym (length-take-le _ _ (few_columns bytes c.requires))
 
 pub slice_bounds-ones-end : goal.slice_bounds-ones-end
-slice_bounds-ones-end c = m_fits c.before
+slice_bounds-ones-end c =
+    let bytes : File c.args.file.now = record { byte = λ i. omega (arith, c.type_inv.file i) } in
+    few_columns bytes c.requires
 
 pub slice_bounds-split_loaded-end-2 : goal.slice_bounds-split_loaded-end-2
-slice_bounds-split_loaded-end-2 c = sym (length-take-le _ _ (m_fits c.before.before))
+slice_bounds-split_loaded-end-2 c =
+    let bytes : File c.args.file.now = record { byte = λ i. omega (arith, c.type_inv.file i) } in
+    sym (length-take-le _ _ (few_columns bytes c.requires))
 
 pub slice_bounds-zeros-end : goal.slice_bounds-zeros-end
-slice_bounds-zeros-end c = m_fits c.before.before
+slice_bounds-zeros-end c =
+    let bytes : File c.args.file.now = record { byte = λ i. omega (arith, c.type_inv.file i) } in
+    few_columns bytes c.requires
 
 pub slice_bounds-split_loaded-end-3 : goal.slice_bounds-split_loaded-end-3
-slice_bounds-split_loaded-end-3 c = sym (length-take-le _ _ (m_fits c.before.before.before))
+slice_bounds-split_loaded-end-3 c =
+    let bytes : File c.args.file.now = record { byte = λ i. omega (arith, c.type_inv.file i) } in
+    sym (length-take-le _ _ (few_columns bytes c.requires))
 
+-- Here nothing is refused.
 pub split_loaded-requires : goal.split_loaded-requires
-split_loaded-requires c = (splittable c.before.before.before.before, record { ones = refl; zeros = refl }, length-take-le _ _ (m_fits c.before.before.before.before), c.one_entries-needed.ensures)
+split_loaded-requires c =
+    let bytes : File c.args.file.now = record { byte = λ i. omega (arith, c.type_inv.file i) } in
+    let tested : within c.args.group (all c.args.n) ≡ c.subset.result = rw (← c.all.ensures) (sym c.subset.ensures) in
+    let splittable : Splittable c.args.file.now c.args.group c.args.n c.args.m (length c.args.workspace.now) =
+    record {
+      taken = c.requires;
+      two = omega arith;
+      known = (within_⊆ _ _).0 (tested ∙ c.if-not-subset.false);
+      long = omega (arith, c.if-workspace-needed.false, c.one_entries-needed.ensures);
+    } in
+    (splittable, record { ones = refl; zeros = refl }, length-take-le _ _ (few_columns bytes c.requires), c.one_entries-needed.ensures)
 
 pub returns : goal.returns
 returns c =
-    let c.before.before.before.before.before.before.before.before.before : (let args = c.args in
-    within args.group (all args.n) ≡ c.subset.result) =
-        rw (← c.all.ensures) (sym c.subset.ensures) in
+    let tested : within c.args.group (all c.args.n) ≡ c.subset.result = rw (← c.all.ensures) (sym c.subset.ensures) in
+    let splittable : Splittable c.args.file.now c.args.group c.args.n c.args.m (length c.args.workspace.now) =
+    record {
+      taken = c.requires;
+      two = omega arith;
+      known = (within_⊆ _ _).0 (tested ∙ c.if-not-subset.false);
+      long = omega (arith, c.if-workspace-needed.false, c.one_entries-needed.ensures);
+    } in
     let e = c.split_loaded.ensures in
-    (e.0 ∙ all_tested _ _ _ _ _ (splittable c.before.before.before.before.before.before.before.before.before), e.1 ∙ cleared_after _ _ _ c.one_entries-needed.ensures e.0)
+    (e.0 ∙ all_tested _ _ _ _ _ splittable, e.1 ∙ cleared_after _ _ _ c.one_entries-needed.ensures e.0)

@@ -1,5 +1,4 @@
 -- `tree::build` meets its contract: the file's refusal, or the answer for a matrix that is taken.
-use borrow.Author.Rules.{rules}
 use mathlib.Core.Path.{sym, ◌∙◌}
 use Rattle.tree.proofs.Rows.{outcome, refused_row, output_left, workspace_left}
 use Rattle.tree.proofs.build.Goals as goal

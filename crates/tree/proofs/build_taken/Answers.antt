@@ -1,8 +1,6 @@
 -- `tree::build_taken` meets its contract: each return is a row of its table.
-use borrow.Author.Rules.{rules}
 use native.Mathlib.Omega.{arith}
 use mathlib.Core.Path.{◌≡◌, refl, ◌∙◌}
-use Prim.Native.Nat.{◌≤◌}
 use lib.ListN.{length}
 use Rattle.record.specs.Bytes.{File}
 use Rattle.method.specs.Tree.{one_entries}
@@ -14,49 +12,40 @@ use Rattle.tree.proofs.Building.{whole_written, whole_is, answers_all, some_taxa
 use Rattle.tree.proofs.Rows.{enough, build_lacks, build_row, output_left, workspace_left}
 use Rattle.tree.proofs.build_taken.Goals as goal
 
--- The file is one of bytes.
-bytes : (c : goal.After-slice_known-1) → File c.args.file.now
-bytes c = record { byte = λ i. omega (arith, c.type_inv.file i) }
-
-lent : (c : goal.After-zeros-1)
-    → let a = c.args in (one_entries (matrix_in a.file.now) ≤ length a.workspace.now) × (room_for a.n a.m ≤ length a.out.now)
-lent c =
-    let lack_is : (let a = c.args in
-    c.lack-lack.result ≡ lacking (length a.workspace.now) (one_entries (matrix_in a.file.now)) (length a.out.now) (room_for a.n a.m)) =
-        let a = c.args in
-    c.lack-lack.ensures ∙ (λ i. lacking (length a.workspace.now) (c.one_entries-needed.ensures i) (length a.out.now)
-    (c.answer_room.ensures i)) in
-    enough _ _ _ _ (omega (arith, lack_is, c.if-lack-ne0.false))
-
-growable : (c : goal.After-zeros-1) → let a = c.args in Growable a.file.now a.n a.m (length a.workspace.now)
-growable c = record { taken = c.requires; places = (lent c).0 }
-
 pub one_entries-needed-requires : goal.one_entries-needed-requires
 one_entries-needed-requires c =
-    let fits = can_load (bytes c) c.requires refl in
-    (fits.0, fits.1, few_columns (bytes c) c.requires)
+    let f : File c.args.file.now = record { byte = λ i. omega (arith, c.type_inv.file i) } in
+    let fits = can_load f c.requires refl in
+    (fits.0, fits.1, few_columns f c.requires)
 
 pub answer_room-requires : goal.answer_room-requires
-answer_room-requires c = some_taxa (bytes c.before) c.requires
+answer_room-requires c = let f : File c.args.file.now = record { byte = λ i. omega (arith, c.type_inv.file i) } in some_taxa f c.requires
 
 pub returns-then-lack-ne0 : goal.returns-then-lack-ne0
 returns-then-lack-ne0 c =
-    let lack_is : (let a = c.args in
-    c.lack-lack.result ≡ lacking (length a.workspace.now) (one_entries (matrix_in a.file.now)) (length a.out.now) (room_for a.n a.m)) =
-        let a = c.args in
-    c.lack-lack.ensures ∙ (λ i. lacking (length a.workspace.now) (c.one_entries-needed.ensures i) (length a.out.now)
-    (c.answer_room.ensures i)) in
-    rw c.refused.ensures (build_lacks _ _ _ _ _ (lack_is) (λ e. c.if-lack-ne0.true e), output_left _ _ _, workspace_left _ _ _)
+    let a = c.args in
+    let lack_is : c.lack-lack.result ≡ lacking (length a.workspace.now) (one_entries (matrix_in a.file.now)) (length a.out.now) (room_for a.n a.m) =
+    c.lack-lack.ensures ∙ (λ i. lacking (length a.workspace.now) (c.one_entries-needed.ensures i) (length a.out.now) (c.answer_room.ensures i)) in
+    rw c.refused.ensures (build_lacks _ _ _ _ _ lack_is (λ e. c.if-lack-ne0.true e), output_left _ _ _, workspace_left _ _ _)
 
 pub grow_tree-tree-requires : goal.grow_tree-tree-requires
-grow_tree-tree-requires c = (growable c, c.one_entries-needed.ensures)
+grow_tree-tree-requires c =
+    let a = c.args in
+    let lack_is : c.lack-lack.result ≡ lacking (length a.workspace.now) (one_entries (matrix_in a.file.now)) (length a.out.now) (room_for a.n a.m) =
+    c.lack-lack.ensures ∙ (λ i. lacking (length a.workspace.now) (c.one_entries-needed.ensures i) (length a.out.now) (c.answer_room.ensures i)) in
+    let lent = enough (length a.workspace.now) (one_entries (matrix_in a.file.now)) (length a.out.now) (room_for a.n a.m) (omega (arith, lack_is, c.if-lack-ne0.false)) in
+    (record { taken = c.requires; places = lent.0 }, c.one_entries-needed.ensures)
 
 pub returns : goal.returns
 returns c =
-    let f = bytes c.before.before.before.before.before.before.before.before.before.before.before.before.before.before.before in
-    let (long, fits) = lent c.before.before.before.before.before.before.before.before in
-    build_row _ _ _ _ _ _ _ long c.grow_tree-tree.ensures.1 fits
-    (answers_all c.write_whole.ensures (whole_is c.grow_tree-tree.ensures.0) (whole_written f (growable c.before.before.before.before.before.before.before.before) _ fits))
+    let a = c.args in
+    let f : File a.file.now = record { byte = λ i. omega (arith, c.type_inv.file i) } in
+    let lack_is : c.lack-lack.result ≡ lacking (length a.workspace.now) (one_entries (matrix_in a.file.now)) (length a.out.now) (room_for a.n a.m) =
+    c.lack-lack.ensures ∙ (λ i. lacking (length a.workspace.now) (c.one_entries-needed.ensures i) (length a.out.now) (c.answer_room.ensures i)) in
+    let (long, fits) = enough (length a.workspace.now) (one_entries (matrix_in a.file.now)) (length a.out.now) (room_for a.n a.m) (omega (arith, lack_is, c.if-lack-ne0.false)) in
+    let growable : Growable a.file.now a.n a.m (length a.workspace.now) = record { taken = c.requires; places = long } in
+    let grown = c.grow_tree-tree.ensures in
+    build_row _ _ _ _ _ _ _ long grown.1 fits (answers_all c.write_whole.ensures (whole_is grown.0) (whole_written f growable _ fits))
 
 pub write_whole-requires : goal.write_whole-requires
 write_whole-requires c = c.grow_tree-tree.ensures.0.flipped

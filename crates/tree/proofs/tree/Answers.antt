@@ -1,5 +1,4 @@
 -- `tree::tree` meets its contract: the file's refusal, or the answer for a matrix that is taken.
-use borrow.Author.Rules.{rules}
 use mathlib.Core.Path.{sym, ◌∙◌}
 use Rattle.tree.proofs.Rows.{tree_outcome, tree_refused_row, tree_output_left, workspace_left}
 use Rattle.tree.proofs.tree.Goals as goal

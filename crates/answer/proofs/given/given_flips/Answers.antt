@@ -1,7 +1,7 @@
 -- `answer::given::given_flips` meets its contract. The invariant: those passed lead here, and the floor is theirs.
 use borrow.Author.Rules.{rules}
 use mathlib.Core.Path.{◌≡◌, refl, sym, subst, ◌∙◌}
-use Prim.Native.Nat.{ℕ, ◌+◌, ◌*◌, ◌-◌, ◌≤◌}
+use Prim.Native.Nat.{ℕ}
 use Rattle.record.specs.declared.Passed.TheVariants.{At}
 use Rattle.answer.specs.Rules.{floor_of}
 use Rattle.answer.specs.Tests.{as_given, walk, entry_test, flips_test}
@@ -21,7 +21,7 @@ returns-in_default c =
     let tested : (let l = c.loop-j in
     let s = c.args in
     c.judge-passed.result ≡ flips_test as_given s.n s.m s.columns.now s.raised.now s.lowered.now l.j l.here) =
-        rw (c.judge-passed.ensures, c.past.ensures, c.entry_fault-fault.ensures, c.loop-j.invariant.2) in
+    rw (c.judge-passed.ensures, c.past.ensures, c.entry_fault-fault.ensures, c.loop-j.invariant.2) in
     let l = c.loop-j in
     c.in_default.is ∙ walk_stops _ _ _ l.j (omega arith) l.invariant.3 (sym c.in_default.is ∙ tested)
 
@@ -31,7 +31,7 @@ overflow_add-floor c =
     let tested : (let l = c.loop-j in
     let s = c.args in
     c.judge-passed.result ≡ flips_test as_given s.n s.m s.columns.now s.raised.now s.lowered.now l.j l.here) =
-        rw (c.judge-passed.ensures, c.past.ensures, c.entry_fault-fault.ensures, c.loop-j.invariant.2) in
+    rw (c.judge-passed.ensures, c.past.ensures, c.entry_fault-fault.ensures, c.loop-j.invariant.2) in
     omega (arith, entry_keeps _ _ _ _ _ _ (given_entry _ _ _ _ _ _ _ (sym c.in-At.is ∙ tested)).0)
 
 pub loop-j-preserved : goal.loop-j-preserved
@@ -40,7 +40,7 @@ loop-j-preserved c =
     let tested : (let l = c.loop-j in
     let s = c.args in
     c.judge-passed.result ≡ flips_test as_given s.n s.m s.columns.now s.raised.now s.lowered.now l.j l.here) =
-        rw (c.judge-passed.ensures, c.past.ensures, c.entry_fault-fault.ensures, c.loop-j.invariant.2) in
+    rw (c.judge-passed.ensures, c.past.ensures, c.entry_fault-fault.ensures, c.loop-j.invariant.2) in
     let l = c.loop-j in
     let e = sym c.in-At.is ∙ tested in
     (omega arith, omega (arith, (given_entry _ _ _ _ _ _ _ e).1), floor_next _ l.j, e ∙ walk_more _ _ l.j l.invariant.3)

@@ -1,15 +1,9 @@
 -- `answer::given::given_flips` meets its contract. The invariant: those passed lead here, and the floor is theirs.
-use borrow.Author.Rules.{rules}
-use mathlib.Core.Path.{◌≡◌, refl, sym, subst, ◌∙◌}
-use Prim.Native.Nat.{ℕ, ◌+◌, ◌*◌, ◌-◌, ◌≤◌}
-use lib.ListN.{get_or}
+use mathlib.Core.Path.{◌≡◌}
+use Prim.Native.Nat.{◌+◌, ◌*◌, ◌-◌, ◌≤◌}
 use Rattle.record.specs.declared.Passed.TheVariants.{At}
 use Rattle.answer.specs.Rules.{floor_of}
-use Rattle.answer.specs.Tests.{as_given, walk, entry_test, flips_test}
-use Rattle.answer.proofs.Rows.{floor_next}
-use Rattle.answer.proofs.Kept.{EntryKept, entry_keeps}
-use Rattle.answer.proofs.Walks.{walk_none, walk_more, walk_stops, given_entry}
-use native.Mathlib.Omega.{arith}
+use Rattle.answer.specs.Tests.{as_given, walk, flips_test}
 use Rattle.answer.proofs.given.given_flips.Given as goal
 
 abbrev pub invariant-loop-j : goal.invariant-loop-j

@@ -1,7 +1,7 @@
 -- `answer::given::given_groups` meets its contract. The invariant: those passed lead here.
 use borrow.Author.Rules.{rules}
 use mathlib.Core.Path.{◌≡◌, sym, subst, ◌∙◌}
-use Prim.Native.Nat.{ℕ, ◌+◌, ◌*◌, ◌-◌, ◌≤◌}
+use Prim.Native.Nat.{ℕ}
 use Rattle.record.specs.declared.Passed.TheVariants.{At}
 use Rattle.answer.specs.Tests.{as_given, walk, group_test}
 use Rattle.answer.proofs.Walks.{walk_none, walk_more, walk_stops, given_group}
@@ -17,7 +17,7 @@ returns-in_default c =
     let tested : (let l = c.loop-i in
     let s = c.args in
     c.judge-passed.result ≡ group_test as_given s.n s.taxa.now l.i l.here) =
-        rw (c.judge-passed.ensures, c.past.ensures, c.group_fault.ensures) in
+    rw (c.judge-passed.ensures, c.past.ensures, c.group_fault.ensures) in
     let l = c.loop-i in
     c.in_default.is ∙ walk_stops _ _ _ l.i (omega arith) l.invariant.2 (sym c.in_default.is ∙ tested)
 
@@ -27,7 +27,7 @@ loop-i-preserved c =
     let tested : (let l = c.loop-i in
     let s = c.args in
     c.judge-passed.result ≡ group_test as_given s.n s.taxa.now l.i l.here) =
-        rw (c.judge-passed.ensures, c.past.ensures, c.group_fault.ensures) in
+    rw (c.judge-passed.ensures, c.past.ensures, c.group_fault.ensures) in
     let l = c.loop-i in
     let passed = sym c.in-At.is ∙ tested in
     (omega arith, omega (arith, (given_group _ _ _ _ passed).1), passed ∙ walk_more _ _ l.i l.invariant.2)

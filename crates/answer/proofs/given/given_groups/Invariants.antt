@@ -1,11 +1,8 @@
 -- `answer::given::given_groups` meets its contract. The invariant: those passed lead here.
-use borrow.Author.Rules.{rules}
-use mathlib.Core.Path.{◌≡◌, sym, subst, ◌∙◌}
-use Prim.Native.Nat.{ℕ, ◌+◌, ◌*◌, ◌-◌, ◌≤◌}
+use mathlib.Core.Path.{◌≡◌}
+use Prim.Native.Nat.{◌+◌, ◌*◌, ◌-◌, ◌≤◌}
 use Rattle.record.specs.declared.Passed.TheVariants.{At}
 use Rattle.answer.specs.Tests.{as_given, walk, group_test}
-use Rattle.answer.proofs.Walks.{walk_none, walk_more, walk_stops, given_group}
-use native.Mathlib.Omega.{arith}
 use Rattle.answer.proofs.given.given_groups.Given as goal
 
 abbrev pub invariant-loop-i : goal.invariant-loop-i

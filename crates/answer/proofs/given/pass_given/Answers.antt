@@ -1,5 +1,4 @@
 -- `answer::given::pass_given` meets its contract: each stage that refuses stops the tests, and the last one ends them.
-use borrow.Author.Rules.{rules}
 use mathlib.Core.Path.{◌≡◌, sym, ◌∙◌}
 use mathlib.Core.List.{List}
 use Prim.Native.Nat.{ℕ, ◌+◌, ◌*◌}
@@ -10,7 +9,7 @@ use Rattle.record.specs.declared.Passed.{Passed}
 use Rattle.record.specs.declared.Passed.TheVariants.{At}
 use Rattle.answer.specs.declared.Answer.{Answer}
 use Rattle.answer.specs.Content.{Content, content_of}
-use Rattle.answer.specs.Rules.{head_fault, total_fault, sum_of}
+use Rattle.answer.specs.Rules.{head_fault, total_fault}
 use Rattle.answer.specs.Tests.{as_given, judge, walk, group_test, flips_test, head_test, end_test}
 use Rattle.answer.proofs.Kept.{HeadKept}
 use Rattle.answer.proofs.Walks.{given_head, given_groups_move, given_flips_move}
@@ -24,7 +23,7 @@ module _ (a : Answer) (columns raised lowered : List ℕ) (entries : ℕ) where
   abbrev given : Content
   given = content_of a columns raised lowered
 
-  headed : (fault : ℕ) (start next : Cursor) (r : Passed) → fault ≡ head_fault a.n a.m a.groups a.flips entries → start ≡ record { at = 0 }
+  headed : (fault : ℕ) (start next : Cursor) (r : Passed) → fault ≡ head_fault a.n a.m a.groups a.flips entries → start.at ≡ 0
       → next ≡ record { at = start.at + 4 + payload records.answer_head } → r ≡ judge fault 0 next → r ≡ head_of as_given given entries
   unfolding head_test
   headed fault start next r f s n e = rw (e, n, s, f)
@@ -46,8 +45,8 @@ module _ (a : Answer) (columns raised lowered : List ℕ) (entries : ℕ) where
   lead : {first flips : Cursor} → At first ≡ head_of as_given given entries → At flips ≡ groups_of as_given given entries first → flips.at ≡ 16 + 16 * a.groups
   lead h g = omega (arith, (leads h).1, given_groups_move _ _ _ _ g)
 
-  flips_end : {flips end : Cursor} → At end ≡ flips_of as_given given entries flips → end.at ≡ flips.at + 22 * a.flips
-  flips_end {flips} f = given_flips_move a.n a.m a.flips given.columns given.raised given.lowered flips f
+  flips_end : (flips : Cursor) {end : Cursor} → At end ≡ flips_of as_given given entries flips → end.at ≡ flips.at + 22 * a.flips
+  flips_end flips f = given_flips_move a.n a.m a.flips given.columns given.raised given.lowered flips f
 
 pub returns-in_default : goal.returns-in_default
 returns-in_default c =
@@ -76,7 +75,10 @@ given_flips-listed-requires c =
     let g = grouped a.answer a.columns.now a.raised.now a.lowered.now a.entries _ _ c.given_groups-groups.ensures in
     let k = (leads a.answer a.columns.now a.raised.now a.lowered.now a.entries (sym c.in-At.is ∙ h)).0 in
     let at = lead a.answer a.columns.now a.raised.now a.lowered.now a.entries (sym c.in-At.is ∙ h) (sym c.in-At-groups.is ∙ g) in
-    ((k.few, k.columns, omega (arith, k.columns, k.flips_fit), omega (arith, k.few, k.fewer, at)), (omega (arith, k.all_listed, c.requires.0), omega (arith, k.all_listed, c.requires.1), omega (arith, k.all_listed, c.requires.2)))
+    record {
+      n_bound = (k.few, k.columns, omega (arith, k.columns, k.flips_fit), omega (arith, k.few, k.fewer, at));
+      flips_in_bounds = (omega (arith, k.all_listed, c.requires.0), omega (arith, k.all_listed, c.requires.1), omega (arith, k.all_listed, c.requires.2));
+    }
 
 pub returns-in_default-listed : goal.returns-in_default-listed
 returns-in_default-listed c =
@@ -101,7 +103,7 @@ past-requires-2 c =
     let f = flipped a.answer a.columns.now a.raised.now a.lowered.now a.entries _ _ c.given_flips-listed.ensures in
     let k = (leads a.answer a.columns.now a.raised.now a.lowered.now a.entries (sym c.in-At.is ∙ h)).0 in
     let at = lead a.answer a.columns.now a.raised.now a.lowered.now a.entries (sym c.in-At.is ∙ h) (sym c.in-At-groups.is ∙ g) in
-    let end = flips_end a.answer a.columns.now a.raised.now a.lowered.now a.entries (sym c.in-At-listed.is ∙ f) in
+    let end = flips_end a.answer a.columns.now a.raised.now a.lowered.now a.entries c.in-At-groups.flips (sym c.in-At-listed.is ∙ f) in
     omega (arith, k.few, k.fewer, k.columns, k.flips_fit, at, end)
 
 pub returns : goal.returns

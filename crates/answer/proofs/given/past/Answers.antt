@@ -1,5 +1,4 @@
 -- `answer::given::past` meets its contract: the kind says how long its payload is.
-use borrow.Author.Rules.{rules}
 use Rattle.answer.proofs.given.past.Goals as goal
 
 pub returns : goal.returns

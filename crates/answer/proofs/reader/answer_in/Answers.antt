@@ -1,5 +1,4 @@
 -- `answer::reader::answer_in` meets its contract: each number is what stands at its place.
-use borrow.Author.Rules.{rules}
 use Rattle.answer.proofs.reader.answer_in.Goals as goal
 
 pub returns : goal.returns

@@ -1,9 +1,9 @@
 -- `answer::reader::costs_in` meets its contract. The invariant: those read so far stand in front.
 use borrow.Author.Rules.{rules}
 use mathlib.Core.Path.{◌≡◌, refl}
-use Prim.Native.Nat.{◌+◌, ◌*◌, ◌-◌, ◌≤◌}
-use lib.ListN.{length, replicate}
-use Rattle.record.specs.Bytes.{number_at, over}
+use Prim.Native.Nat.{◌+◌, ◌*◌}
+use lib.ListN.{replicate}
+use Rattle.record.specs.Bytes.{number_at}
 use Rattle.record.proofs.Over.{nothing}
 use Rattle.answer.specs.Content.{costs_in, run}
 use Rattle.answer.proofs.Runs.{store_next}

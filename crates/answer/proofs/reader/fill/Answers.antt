@@ -1,9 +1,9 @@
 -- `answer::reader::fill` meets its contract. The invariant: the entries filled so far stand in front of each part.
 use borrow.Author.Rules.{rules}
 use mathlib.Core.Path.{◌≡◌, refl}
-use Prim.Native.Nat.{◌+◌, ◌*◌, ◌-◌, ◌≤◌}
-use lib.ListN.{length, length-set}
-use Rattle.record.specs.Bytes.{number_at, over}
+use Prim.Native.Nat.{◌+◌, ◌*◌}
+use lib.ListN.{length-set}
+use Rattle.record.specs.Bytes.{number_at}
 use Rattle.record.proofs.Over.{nothing}
 use Rattle.answer.specs.Content.{columns_from, raised_from, lowered_from, run}
 use Rattle.answer.proofs.Runs.{store_next}

@@ -1,13 +1,9 @@
 -- `answer::reader::fill` meets its contract. The invariant: the entries filled so far stand in front of each part.
-use borrow.Author.Rules.{rules}
-use mathlib.Core.Path.{◌≡◌, refl}
-use Prim.Native.Nat.{◌+◌, ◌*◌, ◌-◌, ◌≤◌}
-use lib.ListN.{length, length-set}
-use Rattle.record.specs.Bytes.{number_at, over}
-use Rattle.record.proofs.Over.{nothing}
-use Rattle.answer.specs.Content.{columns_from, raised_from, lowered_from, run}
-use Rattle.answer.proofs.Runs.{store_next}
-use native.Mathlib.Omega.{arith}
+use mathlib.Core.Path.{◌≡◌}
+use Prim.Native.Nat.{◌-◌, ◌≤◌}
+use lib.ListN.{length}
+use Rattle.record.specs.Bytes.{over}
+use Rattle.answer.specs.Content.{columns_from, raised_from, lowered_from}
 use Rattle.answer.proofs.reader.fill.Given as goal
 
 abbrev pub invariant-loop-j : goal.invariant-loop-j

@@ -1,5 +1,4 @@
 -- `answer::reader::pass_entry` meets its contract: a refused step goes straight out, and else the record is judged.
-use borrow.Author.Rules.{rules}
 use mathlib.Core.Path.{◌≡◌, sym, ◌∙◌}
 use Prim.Native.Nat.{◌+◌}
 use Rattle.record.specs.Records as records
@@ -13,44 +12,44 @@ pub returns-in_default : goal.returns-in_default
 unfolding entry_test
 returns-in_default c =
     let found : c.read-step.result ≡ step c.args.file.now c.args.here.at (record_of records.flips) =
-        rw (← c.of.ensures) c.read-step.ensures in
+    rw (← c.of.ensures) c.read-step.ensures in
     rw (c.refusal.ensures, ← found, c.in_default.is)
 
 pub u16_at-requires : goal.u16_at-requires
 u16_at-requires c =
     let found : c.read-step.result ≡ step c.args.file.now c.args.here.at (record_of records.flips) =
-        rw (← c.of.ensures) c.read-step.ensures in
+    rw (← c.of.ensures) c.read-step.ensures in
     omega (arith, held (sym c.in-Payload.is ∙ found))
 
 pub overflow_add-at : goal.overflow_add-at
 overflow_add-at c =
     let found : c.read-step.result ≡ step c.args.file.now c.args.here.at (record_of records.flips) =
-        rw (← c.of.ensures) c.read-step.ensures in
+    rw (← c.of.ensures) c.read-step.ensures in
     omega (arith, held (sym c.in-Payload.is ∙ found))
 
 pub u64_at-requires : goal.u64_at-requires
 u64_at-requires c =
     let found : c.read-step.result ≡ step c.args.file.now c.args.here.at (record_of records.flips) =
-        rw (← c.of.ensures) c.read-step.ensures in
+    rw (← c.of.ensures) c.read-step.ensures in
     omega (arith, held (sym c.in-Payload.is ∙ found))
 
 pub overflow_add-at-2 : goal.overflow_add-at-2
 overflow_add-at-2 c =
     let found : c.read-step.result ≡ step c.args.file.now c.args.here.at (record_of records.flips) =
-        rw (← c.of.ensures) c.read-step.ensures in
+    rw (← c.of.ensures) c.read-step.ensures in
     omega (arith, held (sym c.in-Payload.is ∙ found))
 
 pub u64_at-requires-2 : goal.u64_at-requires-2
 u64_at-requires-2 c =
     let found : c.read-step.result ≡ step c.args.file.now c.args.here.at (record_of records.flips) =
-        rw (← c.of.ensures) c.read-step.ensures in
+    rw (← c.of.ensures) c.read-step.ensures in
     omega (arith, held (sym c.in-Payload.is ∙ found))
 
 pub returns : goal.returns
 unfolding entry_test
 returns c =
     let found : c.read-step.result ≡ step c.args.file.now c.args.here.at (record_of records.flips) =
-        rw (← c.of.ensures) c.read-step.ensures in
+    rw (← c.of.ensures) c.read-step.ensures in
     let here = c.args.here.at in
     let starts = (held (sym c.in-Payload.is ∙ found)).starts in
     let raised : here + 4 + 2 ≡ here + 6 = omega arith in

@@ -1,15 +1,13 @@
 -- `answer::reader::pass_file` meets its contract: each stage that refuses stops the tests, and the last one ends them.
-use borrow.Author.Rules.{rules}
 use mathlib.Core.Path.{◌≡◌, sym, ap, ◌∙◌}
 use mathlib.Core.List.{List}
 use Prim.Native.Nat.{ℕ}
 use Rattle.record.specs.Bytes.{number_at}
 use Rattle.record.specs.declared.Cursor.{Cursor}
 use Rattle.record.specs.declared.Passed.{Passed}
-use Rattle.record.specs.declared.Passed.TheVariants.{At}
 use Rattle.answer.specs.Content.{group_count, flip_count, flips_start, taxa_in, costs_in, columns_from, raised_from, lowered_from}
 use Rattle.answer.specs.Tests.{in_file, walk, group_test, flips_test, end_test}
-use Rattle.answer.proofs.Files.{head_of, groups_of, flips_of, end_of, head_leads, groups_lead, stops, ends}
+use Rattle.answer.proofs.Files.{groups_of, flips_of, end_of, head_leads, groups_lead, stops, ends}
 use Rattle.answer.proofs.Stages.{head_stops, groups_stop, flips_stop, ends_with}
 use native.Mathlib.Omega.{arith}
 use Rattle.answer.proofs.reader.pass_file.Goals as goal

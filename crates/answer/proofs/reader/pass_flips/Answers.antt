@@ -1,14 +1,10 @@
 -- `answer::reader::pass_flips` meets its contract. The invariant: those passed lead here, and the floor is theirs.
 use borrow.Author.Rules.{rules}
 use mathlib.Core.Path.{◌≡◌, refl, sym, ap, subst, ◌∙◌}
-use mathlib.Core.List.{List}
-use Prim.Native.Nat.{ℕ, ◌+◌, ◌*◌, ◌-◌, ◌≤◌}
-use Rattle.record.specs.declared.Cursor.{Cursor}
-use Rattle.record.specs.declared.Passed.{Passed}
+use Prim.Native.Nat.{ℕ, ◌+◌}
 use Rattle.record.specs.declared.Passed.TheVariants.{At}
-use Rattle.answer.specs.Content.{columns_from, raised_from, lowered_from}
 use Rattle.answer.specs.Rules.{floor_of}
-use Rattle.answer.specs.Tests.{in_file, walk, flips_test}
+use Rattle.answer.specs.Tests.{walk}
 use Rattle.answer.proofs.Rows.{floor_next}
 use Rattle.answer.proofs.Walks.{walk_none, walk_more, walk_stops, entry_met, flips_there, column_there}
 use native.Mathlib.Omega.{arith}
@@ -24,7 +20,7 @@ returns-in_default c =
     let tested : (let s = c.args in
     let l = c.loop-j in
     c.pass_entry-passed.result ≡ one s.file.now s.n s.m s.flips s.from l.j l.here) =
-        let s = c.args in
+    let s = c.args in
     let l = c.loop-j in
     c.pass_entry-passed.ensures ∙ flips_there s.file.now s.n s.m s.flips s.from l.here l.j (omega arith) l.invariant.1 l.invariant.2 in
     let l = c.loop-j in
@@ -41,7 +37,7 @@ loop-j-preserved c =
     let tested : (let s = c.args in
     let l = c.loop-j in
     c.pass_entry-passed.result ≡ one s.file.now s.n s.m s.flips s.from l.j l.here) =
-        let s = c.args in
+    let s = c.args in
     let l = c.loop-j in
     c.pass_entry-passed.ensures ∙ flips_there s.file.now s.n s.m s.flips s.from l.here l.j (omega arith) l.invariant.1 l.invariant.2 in
     let l = c.loop-j in

@@ -1,20 +1,13 @@
 -- `answer::reader::pass_flips` meets its contract. The invariant: those passed lead here, and the floor is theirs.
-use borrow.Author.Rules.{rules}
-use mathlib.Core.Path.{◌≡◌, refl, sym, ap, subst, ◌∙◌}
+use mathlib.Core.Path.{◌≡◌}
 use mathlib.Core.List.{List}
 use Prim.Native.Nat.{ℕ, ◌+◌, ◌*◌, ◌-◌, ◌≤◌}
-use Rattle.record.specs.Records as records
-use Rattle.record.specs.Records.{record_of}
 use Rattle.record.specs.declared.Cursor.{Cursor}
 use Rattle.record.specs.declared.Passed.{Passed}
 use Rattle.record.specs.declared.Passed.TheVariants.{At}
-use Rattle.record.proofs.Steps.{Held}
 use Rattle.answer.specs.Content.{columns_from, raised_from, lowered_from}
 use Rattle.answer.specs.Rules.{floor_of}
 use Rattle.answer.specs.Tests.{in_file, walk, flips_test}
-use Rattle.answer.proofs.Rows.{floor_next}
-use Rattle.answer.proofs.Walks.{walk_none, walk_more, walk_stops, entry_met, flips_there, column_there}
-use native.Mathlib.Omega.{arith}
 use Rattle.answer.proofs.reader.pass_flips.Given as goal
 
 abbrev pub one : List ℕ → ℕ → ℕ → ℕ → Cursor → ℕ → Cursor → Passed

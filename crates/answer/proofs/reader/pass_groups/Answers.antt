@@ -2,7 +2,7 @@
 use borrow.Author.Rules.{rules}
 use mathlib.Core.Path.{◌≡◌, refl, sym, ap, subst, ◌∙◌}
 use Prim.Native.Nat.{ℕ, ◌+◌, ◌*◌, ◌<◌}
-use lib.ListN.{length, set, replicate}
+use lib.ListN.{set, replicate}
 use mathlib.Core.List.{List}
 use Rattle.record.specs.Bytes.{number_at, over}
 use Rattle.record.specs.Records as records
@@ -53,9 +53,9 @@ returns-in_default c =
     let l = c.loop-i in
     let s = c.args in
     let found : c.read-step.result ≡ step s.file.now l.here.at (record_of records.group) =
-        rw (← c.of.ensures) c.read-step.ensures in
+    rw (← c.of.ensures) c.read-step.ensures in
     let refused_step : Refused c.refusal.result ≡ group_test (in_file s.file.now) s.n (taxa_in s.file.now s.groups) l.i l.here =
-        rw (c.refusal.ensures, ← found, c.in_default.is) in
+    rw (c.refusal.ensures, ← found, c.in_default.is) in
     walk_stops _ _ _ l.i (omega arith) l.invariant.4 refused_step
 
 pub u64_at-requires : goal.u64_at-requires
@@ -74,8 +74,7 @@ loop-i-preserved c =
     let s = c.args in
     let found = found_at _ _ _ _ _ c.of.ensures c.read-step.ensures c.in-Payload.is in
     let t = tested s.file.now l.taxa s.n s.groups l.i c.in-Payload.at c.u64_at.result c.group_fault.result l.here c.in-Payload.next _ l.invariant.3 l.invariant.2 found c.u64_at.ensures (omega arith) (omega arith) c.group_fault.ensures c.judge-passed.ensures in
-    let passed = sym c.in-At.is ∙ t in
-    (
+    let passed = sym c.in-At.is ∙ t in (
       omega arith,
       refl,
       omega (arith, (group_met _ _ _ _ _ passed).1),

@@ -1,13 +1,9 @@
 -- `answer::reader::taxa_in` meets its contract. The invariant: those read so far stand in front.
-use borrow.Author.Rules.{rules}
-use mathlib.Core.Path.{◌≡◌, refl}
-use Prim.Native.Nat.{◌+◌, ◌*◌, ◌-◌, ◌≤◌}
-use lib.ListN.{length, replicate}
-use Rattle.record.specs.Bytes.{number_at, over}
-use Rattle.record.proofs.Over.{nothing}
-use Rattle.answer.specs.Content.{taxa_in, run}
-use Rattle.answer.proofs.Runs.{store_next}
-use native.Mathlib.Omega.{arith}
+use mathlib.Core.Path.{◌≡◌}
+use Prim.Native.Nat.{◌-◌, ◌≤◌}
+use lib.ListN.{length}
+use Rattle.record.specs.Bytes.{over}
+use Rattle.answer.specs.Content.{taxa_in}
 use Rattle.answer.proofs.reader.taxa_in.Given as goal
 
 abbrev pub invariant-loop-i : goal.invariant-loop-i

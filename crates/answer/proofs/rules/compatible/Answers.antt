@@ -1,5 +1,4 @@
 -- `answer::rules::compatible` meets its contract: each return is a row of the rule.
-use borrow.Author.Rules.{rules}
 use Rattle.answer.specs.Rules.{compatible}
 use Rattle.answer.proofs.rules.compatible.Goals as goal
 

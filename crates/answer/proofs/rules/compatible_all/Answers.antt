@@ -1,7 +1,6 @@
 -- `answer::rules::compatible_all` meets its contract. The invariant: the groups left decide.
 use borrow.Author.Rules.{rules}
-use mathlib.Core.Path.{◌≡◌, refl, sym, ◌∙◌}
-use Prim.Native.Nat.{◌≤◌}
+use mathlib.Core.Path.{refl, sym, ◌∙◌}
 use lib.Arith.{le-zero}
 use Rattle.answer.specs.Rules.{compatible_all}
 use Rattle.answer.proofs.Rows.{last_crosses, last_compatible}

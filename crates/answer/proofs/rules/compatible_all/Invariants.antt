@@ -1,12 +1,7 @@
 -- `answer::rules::compatible_all` meets its contract. The invariant: the groups left decide.
-use borrow.Author.Rules.{rules}
-use mathlib.Core.Path.{◌≡◌, refl, sym, ◌∙◌}
+use mathlib.Core.Path.{◌≡◌}
 use Prim.Native.Nat.{◌≤◌}
-use lib.Arith.{le-zero}
-use borrow.Author.Tests.{not-true, not-false}
 use Rattle.answer.specs.Rules.{compatible_all}
-use Rattle.answer.proofs.Rows.{last_crosses, last_compatible}
-use native.Mathlib.Omega.{arith}
 use Rattle.answer.proofs.rules.compatible_all.Given as goal
 
 abbrev pub invariant-loop-left : goal.invariant-loop-left

@@ -1,5 +1,4 @@
 -- `answer::rules::follows` meets its contract: each return is a row of the rule.
-use borrow.Author.Rules.{rules}
 use Rattle.answer.proofs.Rows.{lower_before, lower_after, same_lowest}
 use native.Mathlib.Omega.{arith}
 use Rattle.answer.proofs.rules.follows.Goals as goal

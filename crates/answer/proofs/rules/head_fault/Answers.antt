@@ -1,5 +1,4 @@
 -- `answer::rules::head_fault` meets its contract: each return is a row of the head's table.
-use borrow.Author.Rules.{rules}
 use mathlib.Core.Path.{sym, ◌∙◌}
 use Rattle.answer.proofs.Rows.{no_taxa, many_taxa, many_columns, not_counted, many_flips, few_listed, head_kept}
 use native.Mathlib.Omega.{arith}

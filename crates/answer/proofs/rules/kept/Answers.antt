@@ -1,5 +1,4 @@
 -- `answer::rules::kept` meets its contract: each return is a row of the rule.
-use borrow.Author.Rules.{rules}
 use mathlib.Core.Path.{sym, ◌∙◌}
 use mathlib.Core.Path.{sym}
 use Rattle.answer.proofs.Rows.{no_column, not_rising, both_empty, some_flip}

@@ -1,5 +1,4 @@
 -- `answer::rules::placed` meets its contract: the first group, or the one before.
-use borrow.Author.Rules.{rules}
 use mathlib.Core.Path.{◌∙◌}
 use Rattle.answer.proofs.Rows.{first_placed, next_placed}
 use Rattle.answer.proofs.rules.placed.Goals as goal

@@ -1,11 +1,9 @@
 -- `answer::rules::sum_of` meets its contract. The invariant: the sum of those passed, each below 2 to the 32.
 use borrow.Author.Rules.{rules}
 use mathlib.Core.Path.{◌≡◌, refl}
-use Prim.Native.Nat.{◌≤◌, ◌-◌, ◌*◌}
 use lib.ListN.{get_or}
 use Rattle.taxa.specs.Sum.{sum}
 use Rattle.taxa.proofs.Sums.{sum_next}
-use Rattle.answer.specs.Rules.{sum_of}
 use native.Mathlib.Omega.{arith}
 use Rattle.answer.proofs.rules.sum_of.Goals as goal
 

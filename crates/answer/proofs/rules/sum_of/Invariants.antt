@@ -1,12 +1,7 @@
 -- `answer::rules::sum_of` meets its contract. The invariant: the sum of those passed, each below 2 to the 32.
-use borrow.Author.Rules.{rules}
-use mathlib.Core.Path.{◌≡◌, refl}
+use mathlib.Core.Path.{◌≡◌}
 use Prim.Native.Nat.{◌≤◌, ◌-◌, ◌*◌}
-use lib.ListN.{get_or}
-use Rattle.taxa.specs.Sum.{sum}
-use Rattle.taxa.proofs.Sums.{sum_next}
 use Rattle.answer.specs.Rules.{sum_of}
-use native.Mathlib.Omega.{arith}
 use Rattle.answer.proofs.rules.sum_of.Given as goal
 
 abbrev pub invariant-loop-i : goal.invariant-loop-i

@@ -1,5 +1,4 @@
 -- `answer::rules::total_fault` meets its contract: the sum is compared in eight bytes.
-use borrow.Author.Rules.{rules}
 use mathlib.Core.Path.{◌≡◌}
 use mathlib.Core.Logic.{◌≢◌}
 use borrow.Author.Tests.{eq-eqb, ne_eqb}

@@ -1,5 +1,4 @@
 -- `answer::writer::put_answer` meets its contract: each record is written where the one before it ends.
-use borrow.Author.Rules.{rules}
 use lib.ListN.{length-append}
 use Rattle.record.proofs.Over.{next}
 use Rattle.answer.proofs.Pieces.{length_head, length_groups, length_all_flips}
@@ -8,7 +7,7 @@ use native.Mathlib.Omega.{arith}
 use Rattle.answer.proofs.writer.put_answer.Goals as goal
 
 pub put_end-requires : goal.put_end-requires
-put_end-requires c = omega (arith, c.requires.0.1, c.put_head.auto, c.put_groups.auto, c.put_flips.auto)
+put_end-requires c = omega (arith, c.requires.groups_bound.1, c.put_head.auto, c.put_groups.auto, c.put_flips.auto)
 
 pub returns : goal.returns
 returns c =

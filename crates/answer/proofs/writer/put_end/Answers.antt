@@ -1,5 +1,4 @@
 -- `answer::writer::put_end` meets its contract: the record has no payload.
-use borrow.Author.Rules.{rules}
 use Rattle.answer.proofs.Pieces.{end_flat}
 use Rattle.answer.proofs.writer.put_end.Goals as goal
 

@@ -1,11 +1,8 @@
 -- `answer::writer::put_flips` meets its contract. The invariant: the records written so far stand at the front.
 use borrow.Author.Rules.{rules}
 use mathlib.Core.Path.{◌≡◌}
-use Prim.Native.Nat.{◌≤◌, ◌*◌, ◌-◌}
-use lib.ListN.{length}
-use Rattle.record.specs.Bytes.{over}
 use Rattle.record.proofs.Over.{nothing, next}
-use Rattle.answer.specs.Content.{run, flips_record}
+use Rattle.answer.specs.Content.{run}
 use Rattle.answer.proofs.Runs.{run_more}
 use Rattle.answer.proofs.Pieces.{length_all_flips}
 use native.Mathlib.Omega.{arith}
@@ -16,7 +13,7 @@ unfolding run
 loop-j-init c = (search rules, search rules, search rules, nothing 0 _)
 
 pub overflow_cast-columns : goal.overflow_cast-columns
-overflow_cast-columns c = omega (arith, c.requires.1.1 c.loop-j.j (omega arith))
+overflow_cast-columns c = omega (arith, c.requires.by_index c.loop-j.j (omega arith))
 
 pub loop-j-preserved : goal.loop-j-preserved
 loop-j-preserved c =

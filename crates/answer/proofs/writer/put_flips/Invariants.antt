@@ -1,14 +1,9 @@
 -- `answer::writer::put_flips` meets its contract. The invariant: the records written so far stand at the front.
-use borrow.Author.Rules.{rules}
 use mathlib.Core.Path.{◌≡◌}
 use Prim.Native.Nat.{◌≤◌, ◌*◌, ◌-◌}
 use lib.ListN.{length}
 use Rattle.record.specs.Bytes.{over}
-use Rattle.record.proofs.Over.{nothing, next}
 use Rattle.answer.specs.Content.{run, flips_record}
-use Rattle.answer.proofs.Runs.{run_more}
-use Rattle.answer.proofs.Pieces.{length_all_flips}
-use native.Mathlib.Omega.{arith}
 use Rattle.answer.proofs.writer.put_flips.Given as goal
 
 abbrev pub invariant-loop-j : goal.invariant-loop-j

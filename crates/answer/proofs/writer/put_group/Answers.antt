@@ -1,5 +1,4 @@
 -- `answer::writer::put_group` meets its contract: the opening and two numbers, one after the other.
-use borrow.Author.Rules.{rules}
 use lib.ListN.{length-append}
 use Rattle.record.proofs.Numbers.{length_bytes}
 use Rattle.record.proofs.Files.{length_opening}

@@ -1,11 +1,8 @@
 -- `answer::writer::put_groups` meets its contract. The invariant: the records written so far stand at the front.
 use borrow.Author.Rules.{rules}
 use mathlib.Core.Path.{◌≡◌}
-use Prim.Native.Nat.{◌≤◌, ◌*◌, ◌-◌}
-use lib.ListN.{length}
-use Rattle.record.specs.Bytes.{over}
 use Rattle.record.proofs.Over.{nothing, next}
-use Rattle.answer.specs.Content.{run, group_record}
+use Rattle.answer.specs.Content.{run}
 use Rattle.answer.proofs.Runs.{run_more}
 use Rattle.answer.proofs.Pieces.{length_groups}
 use native.Mathlib.Omega.{arith}

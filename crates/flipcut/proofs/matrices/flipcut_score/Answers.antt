@@ -1,5 +1,4 @@
 -- `flipcut::matrices::flipcut_score` meets its contract: what the operation answers fits its bits.
-use borrow.Author.Rules.{rules}
 use native.Mathlib.Omega.{arith}
 use mathlib.Core.Path.{◌∙◌, ap}
 use Rattle.flipcut.specs.Packed.{packed_score}

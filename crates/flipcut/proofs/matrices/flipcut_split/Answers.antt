@@ -1,5 +1,4 @@
 -- `flipcut::matrices::flipcut_split` meets its contract: what the operation answers fits its bits.
-use borrow.Author.Rules.{rules}
 use Rattle.flipcut.proofs.Fitting.{split_fits}
 use Rattle.flipcut.proofs.matrices.flipcut_split.Goals as goal
 

@@ -1,5 +1,4 @@
 -- `flipcut::pack::check_names` meets its contract: by the case.
-use borrow.Author.Rules.{rules}
 use Rattle.flipcut.proofs.pack.check_names.Goals as goal
 
 pub returns-in-Refused : goal.returns-in-Refused

@@ -1,10 +1,6 @@
 -- `flipcut::pack::put_groups` meets its contract: after i turns the first i groups and costs are in place.
-use mathlib.Core.Path.{◌≡◌, refl, ◌∙◌, ap}
-use mathlib.Core.List.{List}
-use Prim.Native.Nat.{ℕ, suc, ◌+◌, ◌-◌, ◌≤◌}
-use native.Mathlib.Omega.{arith}
-use lib.ListN.{get_or, set}
-use borrow.Author.Rules.{rules}
+use mathlib.Core.Path.{◌≡◌}
+use Prim.Native.Nat.{◌-◌, ◌≤◌}
 use Rattle.flipcut.specs.Packed.{with_groups}
 use Rattle.flipcut.proofs.pack.put_groups.Given as goal
 

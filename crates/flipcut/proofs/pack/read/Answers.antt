@@ -1,5 +1,4 @@
 -- `flipcut::pack::read` meets its contract: by the case, whose numbers fit.
-use borrow.Author.Rules.{rules}
 use mathlib.Core.Path.{refl}
 use Rattle.flipcut.proofs.pack.read.Goals as goal
 

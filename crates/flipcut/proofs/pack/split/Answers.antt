@@ -1,5 +1,4 @@
 -- `flipcut::pack::split` meets its contract: by the case, whose numbers fit.
-use borrow.Author.Rules.{rules}
 use mathlib.Core.Path.{refl}
 use Rattle.flipcut.proofs.pack.split.Goals as goal
 

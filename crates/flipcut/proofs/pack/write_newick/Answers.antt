@@ -1,5 +1,4 @@
 -- `flipcut::pack::write_newick` meets its contract: by the case, whose numbers fit.
-use borrow.Author.Rules.{rules}
 use native.Mathlib.Omega.{arith}
 use mathlib.Core.Path.{refl}
 use Rattle.flipcut.proofs.pack.write_newick.Goals as goal

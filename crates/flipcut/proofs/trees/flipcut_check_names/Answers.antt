@@ -1,5 +1,4 @@
 -- `flipcut::trees::flipcut_check_names` meets its contract: what the operation answers, packed.
-use borrow.Author.Rules.{rules}
 use mathlib.Core.Path.{◌∙◌, ap}
 use Rattle.flipcut.specs.Packed.{packed_names}
 use Rattle.flipcut.proofs.trees.flipcut_check_names.Goals as goal

@@ -1,5 +1,4 @@
 -- `flipcut::trees::flipcut_read_newick` meets its contract: what the operation answers fits its bits.
-use borrow.Author.Rules.{rules}
 use Rattle.flipcut.proofs.Fitting.{trees_fit}
 use Rattle.flipcut.proofs.trees.flipcut_read_newick.Goals as goal
 

@@ -1,10 +1,8 @@
 -- `flipcut::trees::flipcut_write_newick` meets its contract: what the operation answers fits its bits.
-use borrow.Author.Rules.{rules}
 use native.Mathlib.Omega.{arith}
 use Rattle.flipcut.proofs.Fitting.{text_fits}
 use Rattle.flipcut.proofs.trees.flipcut_write_newick.Goals as goal
 
 pub write_newick-requires : goal.write_newick-requires
 write_newick-requires c =
-    let known = c.shared_slice_known-1 in
-    rw c.write.ensures.answers (text_fits (record { byte = λ i. omega (arith, known.given i) }) _ _)
+    rw c.write.ensures.answers (text_fits (record { byte = λ i. omega (arith, c.type_inv.answer i) }) _ _)

@@ -10,12 +10,12 @@ use Rattle.newick.proofs.hints.same_at.Goals as goal
 pub returns-then-size-lt-WORD : goal.returns-then-size-lt-WORD
 returns-then-size-lt-WORD c e =
     let bytes : File c.args.text.now =
-        record { byte = λ i. omega (arith, c.type_inv.text i) } in
+    record { byte = λ i. omega (arith, c.type_inv.text i) } in
     short_same (bytes) _ _ _ c.requires.0 c.requires.1 (search rules) (sym c.short_word.ensures ∙ eqb-true _ _ e ∙ c.short_word-then-size-lt-WORD.ensures)
 
 pub returns : goal.returns
 returns c e =
     let bytes : File c.args.text.now =
-        record { byte = λ i. omega (arith, c.type_inv.text i) } in
+    record { byte = λ i. omega (arith, c.type_inv.text i) } in
     long_same (bytes) _ _ _ c.requires.0 c.requires.1 (search rules)
     (sym c.words_at.ensures ∙ c.same_words.ensures e ∙ c.words_at-2.ensures)

@@ -1,5 +1,4 @@
 -- `newick::hints::short_word` meets its contract.
-use borrow.Author.Rules.{rules}
 use Rattle.newick.proofs.hints.short_word.Goals as goal
 
 pub returns : goal.returns

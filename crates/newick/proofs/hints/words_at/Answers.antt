@@ -1,5 +1,4 @@
 -- `newick::hints::words_at` meets its contract.
-use borrow.Author.Rules.{rules}
 use Rattle.newick.proofs.hints.words_at.Goals as goal
 
 pub returns : goal.returns

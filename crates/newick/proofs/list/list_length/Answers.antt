@@ -2,10 +2,8 @@
 use borrow.Author.Rules.{rules}
 use native.Mathlib.Omega.{arith}
 use mathlib.Core.Path.{◌≡◌, refl}
-use mathlib.Core.List.{List}
-use Prim.Native.Nat.{ℕ, ◌+◌, ◌*◌, ◌-◌, ◌≤◌}
 use Rattle.names.specs.Names.{list_length}
-use Rattle.newick.specs.inner.Names.{Placed, names_in}
+use Rattle.newick.specs.inner.Names.{names_in}
 use Rattle.newick.proofs.Lists.{length_next}
 use Rattle.newick.proofs.list.list_length.Goals as goal
 

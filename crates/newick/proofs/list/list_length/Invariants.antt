@@ -1,12 +1,9 @@
 -- `newick::list::list_length` meets its contract. The invariant: of any text with names of these sizes, so long is the list of the names so far.
-use borrow.Author.Rules.{rules}
-use native.Mathlib.Omega.{arith}
-use mathlib.Core.Path.{◌≡◌, refl}
+use mathlib.Core.Path.{◌≡◌}
 use mathlib.Core.List.{List}
 use Prim.Native.Nat.{ℕ, ◌+◌, ◌*◌, ◌-◌, ◌≤◌}
 use Rattle.names.specs.Names.{list_length}
 use Rattle.newick.specs.inner.Names.{Placed, names_in}
-use Rattle.newick.proofs.Lists.{length_next}
 use Rattle.newick.proofs.list.list_length.Given as goal
 
 abbrev pub invariant-loop-i : goal.invariant-loop-i

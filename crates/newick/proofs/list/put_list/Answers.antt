@@ -2,9 +2,7 @@
 use borrow.Author.Rules.{rules}
 use native.Mathlib.Omega.{arith}
 use mathlib.Core.Path.{◌≡◌}
-use Prim.Native.Nat.{◌+◌, ◌-◌, ◌≤◌}
-use lib.ListN.{length, length-take, length-drop}
-use Rattle.record.specs.Bytes.{over}
+use lib.ListN.{length-take, length-drop}
 use Rattle.record.proofs.Over.{nothing, next}
 use Rattle.names.specs.Names.{names_bytes, list_length}
 use Rattle.newick.specs.inner.Names.{names_in}
@@ -21,25 +19,25 @@ pub put_name-requires : goal.put_name-requires
 put_name-requires c =
     let l = c.loop-i in
     let p = c.requires in
-    let below = room p.0.0 l.i (search rules) in
-    (p.0.0.inside l.i (search rules), p.0.1 l.i (search rules), simp (length-take, length-drop) (omega arith))
+    let below = room p.placed.0 l.i (search rules) in
+    (p.placed.0.inside l.i (search rules), p.placed.1 l.i (search rules), simp (length-take, length-drop) (omega arith))
 
 pub overflow_add-at : goal.overflow_add-at
 overflow_add-at c =
     let p = c.requires in
-    omega (arith, p.0.1 c.loop-i.i (search rules))
+    omega (arith, p.placed.1 c.loop-i.i (search rules))
 
 pub overflow_add-at-in-loop-i : goal.overflow_add-at-in-loop-i
 overflow_add-at-in-loop-i c =
     let p = c.requires in
-    omega (arith, room p.0.0 c.loop-i.i (search rules))
+    omega (arith, room p.placed.0 c.loop-i.i (search rules))
 
 pub loop-i-preserved : goal.loop-i-preserved
 loop-i-preserved c =
     let l = c.loop-i in
     let a = c.args in
-    let below = room c.requires.0.0 l.i (search rules) in
-    let longer = length_next c.requires.0.0 l.i (search rules) in
+    let below = room c.requires.placed.0 l.i (search rules) in
+    let longer = length_next c.requires.placed.0 l.i (search rules) in
     let so_far = length_records (names_in a.text.now a.starts.now a.sizes.now l.i) in
     let written = next _ _ _ _ _ l.invariant.4 c.put_name.ensures (omega arith) (omega arith) in
     (search rules, omega arith, omega arith, search rules, rw (names_next a.text.now a.starts.now a.sizes.now l.i) written)

@@ -1,14 +1,10 @@
 -- `newick::list::put_list` meets its contract. The invariant: the records of the names so far stand at the front.
-use borrow.Author.Rules.{rules}
-use native.Mathlib.Omega.{arith}
 use mathlib.Core.Path.{◌≡◌}
 use Prim.Native.Nat.{◌+◌, ◌-◌, ◌≤◌}
-use lib.ListN.{length, length-take, length-drop}
+use lib.ListN.{length}
 use Rattle.record.specs.Bytes.{over}
-use Rattle.record.proofs.Over.{nothing, next}
 use Rattle.names.specs.Names.{names_bytes, list_length}
 use Rattle.newick.specs.inner.Names.{names_in}
-use Rattle.newick.proofs.Lists.{list_flat, length_records, names_next, length_next, room}
 use Rattle.newick.proofs.list.put_list.Given as goal
 
 abbrev pub invariant-loop-i : goal.invariant-loop-i

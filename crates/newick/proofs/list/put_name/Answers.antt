@@ -1,5 +1,4 @@
 -- `newick::list::put_name` meets its contract: the opening, and right after it the name's bytes.
-use borrow.Author.Rules.{rules}
 use native.Mathlib.Omega.{arith}
 use Rattle.record.proofs.Files.{length_opening}
 use Rattle.record.proofs.Over.{next}

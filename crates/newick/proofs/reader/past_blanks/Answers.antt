@@ -1,5 +1,4 @@
 -- `newick::reader::past_blanks` meets its contract.
-use borrow.Author.Rules.{rules}
 use Rattle.newick.proofs.Book.{blanks_passed}
 use Rattle.newick.proofs.reader.past_blanks.Goals as goal
 

@@ -1,12 +1,6 @@
 -- `newick::reader::read_text` meets its contract. The invariant: the reader stands between tokens, past the blanks, and all that was read is in its lists.
 use borrow.Author.Rules.{rules}
 use native.Mathlib.Omega.{arith}
-use mathlib.Core.Path.{◌≡◌}
-use mathlib.Core.Bool.{false}
-use Prim.Native.Nat.{◌-◌, ◌≤◌, ◌<◌}
-use lib.ListN.{length, get_or}
-use Rattle.grammar.specs.Bytes.{is_blank}
-use Rattle.newick.specs.inner.Book.{book, Holds}
 use Rattle.newick.proofs.Book.{begins, led_on, led_to_end}
 use Rattle.newick.proofs.reader.read_text.Goals as goal
 

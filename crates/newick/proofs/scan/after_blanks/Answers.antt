@@ -1,10 +1,6 @@
 -- `newick::scan::after_blanks` meets its contract. The invariant: all bytes so far are blanks.
 use borrow.Author.Rules.{rules}
 use mathlib.Core.Path.{sym, ◌∙◌}
-use Prim.Native.Nat.{◌-◌}
-use lib.ListN.{length}
-use Rattle.grammar.specs.Bytes.{is_blank}
-use Rattle.newick.specs.inner.Runs.{Sofar}
 use Rattle.newick.proofs.Runs.{none_yet, one_more, stops_here, stops_at_end}
 use Rattle.newick.proofs.scan.after_blanks.Goals as goal
 

@@ -1,10 +1,5 @@
 -- `newick::scan::after_letters` meets its contract. The invariant: all bytes so far are letters.
 use borrow.Author.Rules.{rules}
-use native.Mathlib.Omega.{arith}
-use Prim.Native.Nat.{◌-◌}
-use lib.ListN.{length}
-use Rattle.grammar.specs.Bytes.{is_letter}
-use Rattle.newick.specs.inner.Runs.{Sofar}
 use Rattle.newick.proofs.Runs.{none_yet, further, further_to_end, stops_here}
 use Rattle.newick.proofs.scan.after_letters.Goals as goal
 

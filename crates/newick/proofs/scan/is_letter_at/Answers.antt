@@ -1,5 +1,4 @@
 -- `newick::scan::is_letter_at` meets its contract: a byte has a place in the table.
-use borrow.Author.Rules.{rules}
 use native.Mathlib.Omega.{arith}
 use Rattle.newick.proofs.scan.is_letter_at.Goals as goal
 

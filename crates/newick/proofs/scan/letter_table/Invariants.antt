@@ -1,13 +1,9 @@
 -- `newick::scan::letter_table` meets its contract. The invariant: the table tells each byte so far.
-use borrow.Author.Rules.{rules}
-use native.Mathlib.Omega.{arith}
-use mathlib.Core.Path.{◌≡◌, refl, ◌∙◌}
+use mathlib.Core.Path.{◌≡◌}
 use mathlib.Core.Bool.{false}
 use Prim.Native.Nat.{ℕ, ◌-◌, ◌≤◌, ◌<◌}
-use lib.ListN.{length, get_or, set, length-set}
-use lib.Seq.{get_or-set_same, get_or-set_other}
+use lib.ListN.{length, get_or}
 use Rattle.grammar.specs.Bytes.{is_letter}
-use Rattle.newick.proofs.Names.{one_further}
 use Rattle.newick.proofs.scan.letter_table.Given as goal
 
 abbrev pub invariant-loop-b : goal.invariant-loop-b

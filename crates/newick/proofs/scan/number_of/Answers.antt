@@ -3,11 +3,10 @@ use borrow.Author.Rules.{rules}
 use native.Mathlib.Omega.{arith}
 use mathlib.Core.Path.{◌≡◌, sym, ◌∙◌}
 use mathlib.Core.Bool.{false}
-use Prim.Native.Nat.{◌-◌, ◌≤◌}
 use lib.ListN.{get_or}
 use Rattle.record.specs.Bytes.{equal}
 use Rattle.grammar.specs.inner.Standing.{piece}
-use Rattle.newick.proofs.Names.{one_further, Others, found, not_found}
+use Rattle.newick.proofs.Names.{one_further, found, not_found}
 use Rattle.newick.proofs.scan.number_of.Goals as goal
 
 pub same_names-requires : goal.same_names-requires

@@ -1,5 +1,4 @@
 -- `newick::scan::same_names` meets its contract: what is lent of the text are the two names.
-use borrow.Author.Rules.{rules}
 use Rattle.newick.proofs.Names.{whole_piece}
 use Rattle.newick.proofs.scan.same_names.Goals as goal
 

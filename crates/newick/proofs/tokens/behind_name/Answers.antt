@@ -1,5 +1,4 @@
 -- `newick::tokens::behind_name` meets its contract.
-use borrow.Author.Rules.{rules}
 use Rattle.newick.proofs.tokens.behind_name.Goals as goal
 
 pub returns : goal.returns

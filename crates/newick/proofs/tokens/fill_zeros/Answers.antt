@@ -2,10 +2,7 @@
 use borrow.Author.Rules.{rules}
 use native.Mathlib.Omega.{arith}
 use mathlib.Core.Path.{◌≡◌}
-use mathlib.Core.List.{◌++◌, map}
-use Prim.Native.Nat.{◌-◌, ◌≤◌}
-use lib.ListN.{length, take, drop}
-use Rattle.taxa.specs.Sets.{◌∖◌}
+use lib.ListN.{take}
 use Rattle.newick.proofs.Book.{zero_more, no_zeros}
 use Rattle.newick.proofs.tokens.fill_zeros.Goals as goal
 

@@ -1,12 +1,9 @@
 -- `newick::tokens::fill_zeros` meets its contract. The invariant: the 0-sets so far are the tree's other names.
-use borrow.Author.Rules.{rules}
-use native.Mathlib.Omega.{arith}
 use mathlib.Core.Path.{◌≡◌}
 use mathlib.Core.List.{◌++◌, map}
 use Prim.Native.Nat.{◌-◌, ◌≤◌}
 use lib.ListN.{length, take, drop}
 use Rattle.taxa.specs.Sets.{◌∖◌}
-use Rattle.newick.proofs.Book.{zero_more, no_zeros}
 use Rattle.newick.proofs.tokens.fill_zeros.Given as goal
 
 abbrev pub invariant-loop-c : goal.invariant-loop-c

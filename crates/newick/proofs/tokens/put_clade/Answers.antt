@@ -1,5 +1,4 @@
 -- `newick::tokens::put_clade` meets its contract: the first bracket is the root.
-use borrow.Author.Rules.{rules}
 use Rattle.newick.proofs.Book.{put_root, put_other}
 use Rattle.newick.proofs.tokens.put_clade.Goals as goal
 

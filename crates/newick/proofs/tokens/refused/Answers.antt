@@ -1,5 +1,4 @@
 -- `newick::tokens::refused` meets its contract.
-use borrow.Author.Rules.{rules}
 use Rattle.newick.proofs.tokens.refused.Goals as goal
 
 pub returns : goal.returns

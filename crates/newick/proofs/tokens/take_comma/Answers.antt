@@ -1,5 +1,4 @@
 -- `newick::tokens::take_comma` meets its contract.
-use borrow.Author.Rules.{rules}
 use native.Mathlib.Omega.{arith}
 use Rattle.newick.proofs.Book.{comma_outside, comma_taken}
 use Rattle.newick.proofs.tokens.take_comma.Goals as goal

@@ -1,5 +1,4 @@
 -- `newick::tokens::take_known` meets its contract.
-use borrow.Author.Rules.{rules}
 use mathlib.Core.Path.{sym, ◌∙◌}
 use Rattle.newick.proofs.Book.{name_18, name_known}
 use Rattle.newick.proofs.tokens.take_known.Goals as goal

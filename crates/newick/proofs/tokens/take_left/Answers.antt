@@ -1,5 +1,4 @@
 -- `newick::tokens::take_left` meets its contract.
-use borrow.Author.Rules.{rules}
 use native.Mathlib.Omega.{arith}
 use Rattle.newick.proofs.Book.{left_19, left_20, left_taken}
 use Rattle.newick.proofs.tokens.take_left.Goals as goal

@@ -15,7 +15,7 @@ returns-then-i-from c =
     let pre = c.requires in (
       λ k h e.
           c.take_known.ensures _ _ h e
-          (record { run = pre.1; some = pre.2; short = pre.3; known = search rules; c.before.before.before.before.before.before = c.number_of-i.ensures }),
+          (record { run = pre.1; some = pre.2; short = pre.3; known = search rules; numbered = c.number_of-i.ensures }),
       c.hint.ensures,
     )
 

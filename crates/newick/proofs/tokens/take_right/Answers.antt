@@ -1,5 +1,4 @@
 -- `newick::tokens::take_right` meets its contract.
-use borrow.Author.Rules.{rules}
 use native.Mathlib.Omega.{arith}
 use Prim.Native.Nat.{◌-◌}
 use Rattle.newick.proofs.Book.{right_outside, right_too_soon, right_taken}

@@ -1,5 +1,4 @@
 -- `newick::tokens::take_semicolon` meets its contract.
-use borrow.Author.Rules.{rules}
 use native.Mathlib.Omega.{arith}
 use Rattle.newick.proofs.Book.{semicolon_inside, semicolon_taken}
 use Rattle.newick.proofs.tokens.take_semicolon.Goals as goal

@@ -1,29 +1,16 @@
 -- `newick::tokens::take_token` meets its contract: each token by its own function.
 use borrow.Author.Rules.{rules}
 use mathlib.Core.Path.{◌≡◌, refl, sym, ◌∙◌}
-use mathlib.Core.Bool.{true}
-use Prim.Native.Nat.{ℕ, ◌+◌}
-use lib.ListN.{get_or}
-use Rattle.grammar.specs.Bytes.{is_letter}
-use Rattle.newick.specs.inner.Book.{Book, book, SignAt}
+use mathlib.Core.List.{List}
+use Prim.Native.Nat.{ℕ, ◌+◌, ◌<◌}
+use lib.ListN.{length, get_or}
+use Rattle.newick.specs.inner.Book.{book, SignAt}
 use Rattle.newick.proofs.Book.{wrong_after, wrong_before, no_sign, led_on}
 use Rattle.newick.proofs.tokens.take_token.Goals as goal
 
--- The reader's lists before the token.
-abbrev lists : goal.Start → Book
-lists c =
-    let a = c.args in
-    book a.starts.now a.sizes.now a.ones.now a.zeros.now a.index.now a.before.now a.filled.now
-
 -- A token of one byte, a sign.
-sign_here : (c : goal.Else-from) {sign : ℕ} → get_or c.args.text.now c.args.from.at 0 ≡ sign
-    → SignAt c.args.text.now c.args.from.at sign (c.args.from.at + 1)
-sign_here c e = record { inside = c.requires.1; is = e; after = refl }
-
--- The test of a letter was met.
-letter : (c : goal.After-take_name-arg-then-is_letter_at-2-1) →
-    is_letter (get_or c.args.text.now c.args.from.at 0) ≡ true
-letter c = sym c.is_letter_at.ensures ∙ c.if-is_letter_at.true
+sign_here : {text : List ℕ} {at sign : ℕ} → at < length text → get_or text at 0 ≡ sign → SignAt text at sign (at + 1)
+sign_here inside e = record { inside = inside; is = e; after = refl }
 
 pub take_sign-requires : goal.take_sign-requires
 take_sign-requires c =
@@ -43,20 +30,26 @@ returns-then-from c =
 pub take_name-named-requires : goal.take_name-named-requires
 take_name-named-requires c =
     let pre = c.requires in
-    (pre.0.placed, pre.1, letter c, pre.3, pre.4)
+    (pre.0.placed, pre.1, sym c.is_letter_at.ensures ∙ c.if-is_letter_at.true, pre.3, pre.4)
 
 pub with_sign-requires : goal.with_sign-requires
 with_sign-requires c = λ on.
-    let h = (led_on _ _ _ _ _ on (c.take_name-named.ensures.0 (lists c.before.before.before.before.before.before.before.before.before.before.before.before.before.before) c.requires.0 (search rules))).0 in
+    let a = c.args in
+    let lists = book a.starts.now a.sizes.now a.ones.now a.zeros.now a.index.now a.before.now a.filled.now in
+    let h = (led_on _ _ _ _ _ on (c.take_name-named.ensures.0 lists c.requires.0 (search rules))).0 in
     (h.bracketed, h.zeros_room)
 
 pub returns-then-is_letter_at : goal.returns-then-is_letter_at
 returns-then-is_letter_at c =
-    (c.with_sign.ensures _ _ _ (c.take_name-named.ensures.0 (lists c.before.before.before.before.before.before.before.before.before.before.before.before.before.before.before) c.requires.0 (search rules)), c.take_name-named.ensures.1)
+    let a = c.args in
+    let lists = book a.starts.now a.sizes.now a.ones.now a.zeros.now a.index.now a.before.now a.filled.now in
+    (c.with_sign.ensures _ _ _ (c.take_name-named.ensures.0 lists c.requires.0 (search rules)), c.take_name-named.ensures.1)
 
 pub returns-then-b-eq-LEFT : goal.returns-then-b-eq-LEFT
 returns-then-b-eq-LEFT c =
-    (c.take_left.ensures c.args.text.now (lists c.before.before.before.before.before.before.before.before.before.before.before) c.requires.0 (search rules) (sign_here c.before.before.before.before.before.before.before.before (search rules)), c.requires.4)
+    let a = c.args in
+    let lists = book a.starts.now a.sizes.now a.ones.now a.zeros.now a.index.now a.before.now a.filled.now in
+    (c.take_left.ensures a.text.now lists c.requires.0 (search rules) (sign_here c.requires.1 (search rules)), c.requires.4)
 
 pub returns : goal.returns
 returns c =

@@ -1,11 +1,8 @@
 -- `net::clear` meets its contract. The invariant: the first i numbers are 0, and the rest as they came.
-use borrow.Author.Rules.{rules}
 use native.Mathlib.Omega.{arith}
 use mathlib.Core.Path.{◌≡◌, ◌∙◌}
-use mathlib.Core.List.{◌++◌}
-use Prim.Native.Nat.{◌≤◌, ◌-◌}
 use lib.IntN.{pos}
-use lib.ListN.{length, drop, replicate, length-set}
+use lib.ListN.{length-set}
 use Rattle.search.proofs.Workspace.{fill_more}
 use Rattle.search.proofs.net.clear.Goals as goal
 

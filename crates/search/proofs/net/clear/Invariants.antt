@@ -1,12 +1,9 @@
 -- `net::clear` meets its contract. The invariant: the first i numbers are 0, and the rest as they came.
-use borrow.Author.Rules.{rules}
-use native.Mathlib.Omega.{arith}
-use mathlib.Core.Path.{◌≡◌, ◌∙◌}
+use mathlib.Core.Path.{◌≡◌}
 use mathlib.Core.List.{◌++◌}
 use Prim.Native.Nat.{◌≤◌, ◌-◌}
 use lib.IntN.{pos}
-use lib.ListN.{length, drop, replicate, length-set}
-use Rattle.search.proofs.Workspace.{fill_more}
+use lib.ListN.{length, drop, replicate}
 use Rattle.search.proofs.net.clear.Given as goal
 
 abbrev pub invariant-loop-i : goal.invariant-loop-i

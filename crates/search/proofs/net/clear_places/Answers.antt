@@ -1,7 +1,6 @@
 -- `net::clear_places` meets its contract.
 use mathlib.Core.Path.{ap, ◌∙◌}
 use Prim.Native.Nat.{ℕ}
-use borrow.Author.Rules.{rules}
 use native.Mathlib.Omega.{arith}
 use Rattle.search.specs.Workspace.{cleared}
 use Rattle.search.proofs.net.clear_places.Goals as goal

@@ -5,9 +5,8 @@ use mathlib.Core.List.{List}
 use Prim.Native.Nat.{ℕ, ◌+◌}
 use lib.IntN.{ℤ, pos}
 use lib.ListN.{get_or}
-use mir.Facts.{to_z-of_z}
 use native.Mathlib.Omega.{arith}
-use borrow.Author.Rules.{rules, sfits_of}
+use borrow.Author.Rules.{rules}
 use Rattle.taxa.specs.Sets.{has, count}
 use Rattle.search.specs.Signed.{out_of, inn_of}
 use Rattle.search.specs.inner.Places.{IsColumn}
@@ -23,10 +22,10 @@ is_flow ws i q row e k h =
 pub returns : goal.returns
 unfolding outs inns
 returns c = λ row e k h.
-    (
-      rw (to_z-of_z (sfits_of c.f-1.given)) at c.out_of.ensures ∙ ap out_of (is_flow c.args.ws.now c.args.i c.slot.ensures row e k h),
-      rw (to_z-of_z (sfits_of c.f-1.given)) at c.inn_of.ensures ∙ ap inn_of (is_flow c.args.ws.now c.args.i c.slot.ensures row e k h),
-    )
+    let at = is_flow c.args.ws.now c.args.i c.slot.ensures row e k h in
+    let out : c.out_of.result ≡ out_of (get_or c.args.ws.now c.slot.result (pos 0)) = search rules in
+    let inn : c.inn_of.result ≡ inn_of (get_or c.args.ws.now c.slot.result (pos 0)) = search rules in
+    (out ∙ ap out_of at, inn ∙ ap inn_of at)
 
 pub bounds-ws-slot : goal.bounds-ws-slot
 bounds-ws-slot c = omega (arith, c.slot.ensures, c.requires.place)

@@ -1,7 +1,6 @@
 -- `net::hop` meets its contract: it is one `send` between the places of the two pairs.
 use Prim.Native.Nat.{ℕ, ◌+◌}
 use mathlib.Core.Path.{◌≡◌, ◌∙◌}
-use borrow.Author.Rules.{rules}
 use Rattle.taxa.specs.Sets.{count, sizes}
 use Rattle.search.specs.Workspace.{slot}
 use Rattle.search.specs.inner.Places.{IsColumn}

@@ -1,5 +1,4 @@
 -- `net::pulled` meets its contract: the difference fits, and its two numbers are those of its parts.
-use borrow.Author.Rules.{rules}
 use native.Mathlib.Omega.{arith}
 use mathlib.Core.Path.{◌≡◌, refl}
 use lib.IntN.{pos, ◌-ℤ◌}

@@ -1,5 +1,4 @@
 -- `net::pushed` meets its contract: the sum fits, and its two numbers are those of the summands.
-use borrow.Author.Rules.{rules}
 use native.Mathlib.Omega.{arith}
 use mathlib.Core.Path.{◌≡◌, refl}
 use lib.IntN.{pos, ◌+ℤ◌}

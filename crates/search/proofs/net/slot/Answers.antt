@@ -1,5 +1,4 @@
 -- `net::slot` meets its contract: the column's offset, and the taxon's rank in what the column joins.
-use borrow.Author.Rules.{rules}
 use native.Mathlib.Omega.{arith}
 use Rattle.search.proofs.net.slot.Goals as goal
 

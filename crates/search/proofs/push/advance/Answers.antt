@@ -1,17 +1,15 @@
 -- `push::advance` meets its contract. The invariant: the path from t back to j has been pushed.
-use borrow.Author.Rules.{rules}
 use native.Mathlib.Omega.{arith}
-use mathlib.Core.Bool.{true}
 use mathlib.Core.List.{List}
 use lib.IntN.{ℤ}
-use mathlib.Core.Path.{◌≡◌, sym, ◌∙◌}
-use Prim.Native.Nat.{ℕ, ◌+◌, ◌*◌, ◌<◌}
-use Rattle.taxa.specs.Sets.{has, sizes}
+use mathlib.Core.Path.{sym, ◌∙◌}
+use Prim.Native.Nat.{ℕ, ◌+◌, ◌<◌}
+use Rattle.taxa.specs.Sets.{sizes}
 use Rattle.search.specs.Search.{nth}
 use Rattle.search.specs.inner.Flows.{Flowing, Advanced}
-use Rattle.search.specs.inner.Reaching.{width_of, turn_of}
+use Rattle.search.specs.inner.Reaching.{width_of}
 use Rattle.search.proofs.Workspace.{kept_none}
-use Rattle.search.proofs.Flows.{Under, under_start, under_low, not_root, is_root, under_via, under_turn, can_hop, under_step, stayed, went, size_small}
+use Rattle.search.proofs.Flows.{under_start, under_low, not_root, is_root, under_via, under_turn, can_hop, under_step, stayed, went, size_small}
 use Rattle.search.proofs.push.advance.Goals as goal
 
 -- t is one of 64 taxa.
@@ -46,12 +44,11 @@ pub contains-requires : goal.contains-requires
 contains-requires c = omega (arith, t_low c.requires.0)
 
 pub returns-then-not-contains : goal.returns-then-not-contains
-returns-then-not-contains c =
-    (
-      stayed c.requires.0 c.reach-met.ensures.0 c.single-goal.ensures (sym c.contains.ensures ∙ c.if-not-contains.true),
-      kept_none (sizes c.args.m (nth c.args.joined.now)) c.args.ws.now,
-      c.reach-met.ensures.1,
-    )
+returns-then-not-contains c = (
+  stayed c.requires.0 c.reach-met.ensures.0 c.single-goal.ensures (sym c.contains.ensures ∙ c.if-not-contains.true),
+  kept_none (sizes c.args.m (nth c.args.joined.now)) c.args.ws.now,
+  c.reach-met.ensures.1,
+)
 
 pub overflow_mul-d : goal.overflow_mul-d
 overflow_mul-d c = omega (arith, t_low c.requires.0)
@@ -128,7 +125,7 @@ overflow_add-result c =
     -- All of the path has been pushed: the loop ends at a source.
     let pushed : Advanced a.weights.now a.planes.now a.joined.now a.limits.now a.offsets.now a.n a.m c.loop-j.ws c.loop-j.used a.sources a.t a.size
     (a.size + width_of r.new.tree a.t) r.result =
-        went c.loop-j.invariant (is_root c.loop-j.invariant (omega arith)) met (r.ensures.0.tree.link a.t met c.requires.0.apart).some in
+    went c.loop-j.invariant (is_root c.loop-j.invariant (omega arith)) met (r.ensures.0.tree.link a.t met c.requires.0.apart).some in
     omega (arith, size_small pushed.stage.flowing)
 
 pub shape_of-ws : goal.shape_of-ws
@@ -142,5 +139,5 @@ returns c =
     -- All of the path has been pushed: the loop ends at a source.
     let pushed : Advanced a.weights.now a.planes.now a.joined.now a.limits.now a.offsets.now a.n a.m c.loop-j.ws c.loop-j.used a.sources a.t a.size
     (a.size + width_of r.new.tree a.t) r.result =
-        went c.loop-j.invariant (is_root c.loop-j.invariant (omega arith)) met (r.ensures.0.tree.link a.t met c.requires.0.apart).some in
+    went c.loop-j.invariant (is_root c.loop-j.invariant (omega arith)) met (r.ensures.0.tree.link a.t met c.requires.0.apart).some in
     (pushed, c.loop-j.invariant.kept, c.reach-met.ensures.1)

@@ -1,14 +1,12 @@
 -- `push::direct_hop` meets its contract: the column does not join t, or no source, or the hop makes the flow larger by what it carries.
-use borrow.Author.Rules.{rules}
 use native.Mathlib.Omega.{arith}
 use mathlib.Core.Bool.{true}
 use mathlib.Core.List.{List}
 use lib.IntN.{ℤ}
 use mathlib.Core.Path.{◌≡◌, sym, ◌∙◌}
-use Prim.Native.Nat.{ℕ, ◌+◌, ◌*◌, ◌<◌}
+use Prim.Native.Nat.{ℕ, ◌+◌, ◌<◌}
 use Rattle.taxa.specs.Sets.{has, sizes, ◌∈◌, ◌∩◌}
 use Rattle.taxa.proofs.Members.{in∩}
-use Rattle.search.specs.Workspace.{outs, inns, Kept}
 use Rattle.search.specs.Search.{nth}
 use Rattle.search.specs.inner.Reaching.{carried}
 use Rattle.search.specs.inner.Flows.{Flowing}
@@ -67,8 +65,8 @@ step-requires c =
     let to_flow = c.flow.ensures (nth a.joined.now) a.c c.column_at-column.ensures.0 joins_t in
     -- What the hop carries.
     let carries : c.carry_to-d.result ≡ carried a.weights.now a.planes.now a.joined.now a.limits.now a.n a.ws.now a.c i a.t =
-        rw (to_flow.0, to_flow.1) at c.carry_to-d.ensures
-        ∙ gate_carry p.0.ready p.1 (gate_of c.gate_at-g.ensures from_flow) joins_i.0 a.t joins_t in
+    rw (to_flow.0, to_flow.1) at c.carry_to-d.ensures
+    ∙ gate_carry p.0.ready p.1 (gate_of c.gate_at-g.ensures from_flow) joins_i.0 a.t joins_t in
     direct_asks p.0 p.1 joins_i.1 (omega (arith, carries)) (joins_i.0, joins_t)
 
 pub returns-then-not-contains : goal.returns-then-not-contains
@@ -115,12 +113,12 @@ overflow_add-result c =
     let to_flow = c.flow.ensures (nth a.joined.now) a.c c.column_at-column.ensures.0 joins_t in
     -- What the hop carries.
     let carries : c.carry_to-d.result ≡ carried a.weights.now a.planes.now a.joined.now a.limits.now a.n a.ws.now a.c i a.t =
-        rw (to_flow.0, to_flow.1) at c.carry_to-d.ensures
-        ∙ gate_carry p.0.ready p.1 (gate_of c.gate_at-g.ensures from_flow) joins_i.0 a.t joins_t in
+    rw (to_flow.0, to_flow.1) at c.carry_to-d.ensures
+    ∙ gate_carry p.0.ready p.1 (gate_of c.gate_at-g.ensures from_flow) joins_i.0 a.t joins_t in
     let h = c.step.ensures in
     -- The flow with that.
     let flows : Flowing a.weights.now a.planes.now a.joined.now a.limits.now a.offsets.now a.n a.m c.step.new.ws c.step.new.used a.sources a.t (a.size + c.carry_to-d.result) =
-        direct_flow p.0 p.1 joins_i.1 (omega (arith, carries)) (h.0 a.m) (h.1 a.m p.1) h.2 in
+    direct_flow p.0 p.1 joins_i.1 (omega (arith, carries)) (h.0 a.m) (h.1 a.m p.1) h.2 in
     omega (arith, size_small flows)
 
 -- No number past the places of the columns changed.
@@ -138,10 +136,10 @@ returns c =
     let to_flow = c.flow.ensures (nth a.joined.now) a.c c.column_at-column.ensures.0 joins_t in
     -- What the hop carries.
     let carries : c.carry_to-d.result ≡ carried a.weights.now a.planes.now a.joined.now a.limits.now a.n a.ws.now a.c i a.t =
-        rw (to_flow.0, to_flow.1) at c.carry_to-d.ensures
-        ∙ gate_carry p.0.ready p.1 (gate_of c.gate_at-g.ensures from_flow) joins_i.0 a.t joins_t in
+    rw (to_flow.0, to_flow.1) at c.carry_to-d.ensures
+    ∙ gate_carry p.0.ready p.1 (gate_of c.gate_at-g.ensures from_flow) joins_i.0 a.t joins_t in
     let h = c.step.ensures in
     -- The flow with that.
     let flows : Flowing a.weights.now a.planes.now a.joined.now a.limits.now a.offsets.now a.n a.m c.step.new.ws c.step.new.used a.sources a.t (a.size + c.carry_to-d.result) =
-        direct_flow p.0 p.1 joins_i.1 (omega (arith, carries)) (h.0 a.m) (h.1 a.m p.1) h.2 in
+    direct_flow p.0 p.1 joins_i.1 (omega (arith, carries)) (h.0 a.m) (h.1 a.m p.1) h.2 in
     (flows, h.1 a.m p.1)

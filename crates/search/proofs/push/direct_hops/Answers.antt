@@ -1,11 +1,7 @@
 -- `push::direct_hops` meets its contract. The invariant: a flow of the size stands in the workspace.
-use borrow.Author.Rules.{rules}
 use native.Mathlib.Omega.{arith}
-use Prim.Native.Nat.{◌-◌}
 use Rattle.taxa.specs.Sets.{sizes}
 use Rattle.search.specs.Search.{nth}
-use Rattle.search.specs.Workspace.{Kept}
-use Rattle.search.specs.inner.Flows.{Flowing}
 use Rattle.search.proofs.Workspace.{kept_none, kept_then}
 use Rattle.search.proofs.push.direct_hops.Goals as goal
 

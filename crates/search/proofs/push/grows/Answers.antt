@@ -1,5 +1,4 @@
 -- `push::grows` meets its contract, by the outcomes of its tests.
-use borrow.Author.Rules.{rules}
 use borrow.Author.Tests.{ltb-false}
 use mathlib.Core.Bool.{true≢false}
 use mathlib.Core.Path.{sym, ◌∙◌}

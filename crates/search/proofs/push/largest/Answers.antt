@@ -1,17 +1,14 @@
 -- `push::largest` meets its contract. The invariant: a flow stands in the workspace, and the taxa reached are all, if t is none of them.
-use borrow.Author.Rules.{rules}
 use native.Mathlib.Omega.{arith}
 use mathlib.Core.Bool.{true, true≢false}
 use mathlib.Core.Path.{◌≡◌, sym, ap, ◌∙◌}
 use Prim.Native.Nat.{ℕ, ◌^◌}
-use lib.ListN.{length}
 use Rattle.taxa.specs.Sets.{has, sizes}
 use Rattle.taxa.proofs.Members.{in_pow}
 use Rattle.search.specs.Workspace.{Kept}
 use Rattle.search.specs.Search.{nth}
-use Rattle.search.specs.inner.Flows.{Stage}
 use Rattle.search.proofs.Workspace.{kept_none, kept_then, cleared_kept}
-use Rattle.search.proofs.Flows.{no_flow, size_small, rest_of, falls}
+use Rattle.search.proofs.Flows.{no_flow, size_small, falls}
 use Rattle.search.proofs.push.largest.Goals as goal
 
 -- t counts as reached.
@@ -57,7 +54,7 @@ shape_of-ws c =
     let a = c.args in
     let clear = rw (c.requires.0.offsets.is a.m (omega arith)) at c.clear_places.ensures in
     let kept : Kept (sizes a.m (nth a.joined.now)) a.ws.now c.loop-ws.ws =
-        kept_then (cleared_kept a.ws.now clear c.requires.1) (kept_then c.direct_hops-size.ensures.1 c.loop-ws.invariant.1) in
+    kept_then (cleared_kept a.ws.now clear c.requires.1) (kept_then c.direct_hops-size.ensures.1 c.loop-ws.invariant.1) in
     kept.long
 
 pub returns : goal.returns
@@ -65,7 +62,7 @@ returns c =
     let a = c.args in
     let clear = rw (c.requires.0.offsets.is a.m (omega arith)) at c.clear_places.ensures in
     let kept : Kept (sizes a.m (nth a.joined.now)) a.ws.now c.loop-ws.ws =
-        kept_then (cleared_kept a.ws.now clear c.requires.1) (kept_then c.direct_hops-size.ensures.1 c.loop-ws.invariant.1) in
+    kept_then (cleared_kept a.ws.now clear c.requires.1) (kept_then c.direct_hops-size.ensures.1 c.loop-ws.invariant.1) in
     let v = c.loop-ws.invariant in
     let f = v.0.flowing in (
       record { flow = f.flow; small = size_small f; side = v.0.side; stops = c.grows.ensures.1 c.loop-ws-test.false },

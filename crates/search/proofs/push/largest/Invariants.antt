@@ -1,17 +1,11 @@
 -- `push::largest` meets its contract. The invariant: a flow stands in the workspace, and the taxa reached are all, if t is none of them.
-use borrow.Author.Rules.{rules}
-use native.Mathlib.Omega.{arith}
-use mathlib.Core.Bool.{true, true≢false}
-use mathlib.Core.Path.{◌≡◌, sym, ap, ◌∙◌}
-use Prim.Native.Nat.{ℕ}
+use mathlib.Core.Path.{◌≡◌}
 use lib.ListN.{length}
 use Rattle.taxa.specs.Sets.{has, sizes}
-use Rattle.taxa.proofs.Members.{in_pow}
 use Rattle.search.specs.Workspace.{Kept}
 use Rattle.search.specs.Search.{nth}
 use Rattle.search.specs.inner.Flows.{Stage}
-use Rattle.search.proofs.Workspace.{kept_none, kept_then, cleared_kept}
-use Rattle.search.proofs.Flows.{no_flow, size_small, rest_of, falls}
+use Rattle.search.proofs.Flows.{rest_of}
 use Rattle.search.proofs.push.largest.Given as goal
 
 abbrev pub invariant-loop-ws : goal.invariant-loop-ws

@@ -1,10 +1,7 @@
 -- `push::step` meets its contract: the count grows by what the two entries do.
-use borrow.Author.Rules.{rules}
 use native.Mathlib.Omega.{arith}
 use mathlib.Core.Path.{◌≡◌}
-use mathlib.Core.List.{List}
-use Prim.Native.Nat.{ℕ, ◌+◌, ◌*◌, ◌^◌, ◌<◌}
-use lib.IntN.{ℤ}
+use Prim.Native.Nat.{◌+◌, ◌*◌, ◌^◌, ◌<◌}
 use lib.ListN.{length}
 use Rattle.taxa.specs.Sum.{sum}
 use Rattle.search.specs.Workspace.{outs}
@@ -32,7 +29,7 @@ returns c =
     -- The count before and the two entries after are the count after and the two entries before.
     let balance : sum a.n (outs c.hop.new.ws (nth a.joined.now) a.c) + (c.flow.result.out + c.flow-2.result.out)
     ≡ nth a.used.now a.c + (c.flow-3.result.out + c.flow-4.result.out) =
-        omega (arith, count_after a.n (c.hop.ensures.0 a.n 0 p.1).here p.2 p.3 p.0.apart, p.4.is, from_before, to_before, from_after, to_after) in
+    omega (arith, count_after a.n (c.hop.ensures.0 a.n 0 p.1).here p.2 p.3 p.0.apart, p.4.is, from_before, to_before, from_after, to_after) in
     (λ m. c.hop.ensures.0 a.n m p.1, c.hop.ensures.1, counted a.joined.now a.n a.used.now a.c p.4.counts p.4.column (omega (arith, balance)))
 
 pub column_at-column-requires : goal.column_at-column-requires
@@ -68,7 +65,7 @@ overflow_add-after c =
     let from_after = (c.flow-3.ensures (nth a.joined.now) a.c c.column_at-column.ensures.0 p.0.from.joins).0 in
     let to_after = (c.flow-4.ensures (nth a.joined.now) a.c c.column_at-column.ensures.0 p.0.to.joins).0 in
     let few : c.flow-3.result.out + c.flow-4.result.out < 3 * 2 ^ 30 =
-        omega (arith, entries_few p.2 p.4, entries_few p.3 p.4, p.4.little, here.from_out, here.to_out, from_after, to_after) in
+    omega (arith, entries_few p.2 p.4, entries_few p.3 p.4, p.4.little, here.from_out, here.to_out, from_after, to_after) in
     omega (arith, few)
 
 pub offset_bounds-used-c : goal.offset_bounds-used-c
@@ -85,7 +82,7 @@ overflow_add-used c =
     let from_after = (c.flow-3.ensures (nth a.joined.now) a.c c.column_at-column.ensures.0 p.0.from.joins).0 in
     let to_after = (c.flow-4.ensures (nth a.joined.now) a.c c.column_at-column.ensures.0 p.0.to.joins).0 in
     let few : c.flow-3.result.out + c.flow-4.result.out < 3 * 2 ^ 30 =
-        omega (arith, entries_few p.2 p.4, entries_few p.3 p.4, p.4.little, here.from_out, here.to_out, from_after, to_after) in
+    omega (arith, entries_few p.2 p.4, entries_few p.3 p.4, p.4.little, here.from_out, here.to_out, from_after, to_after) in
     omega (arith, few, p.4.few)
 
 pub overflow_sub-used : goal.overflow_sub-used
@@ -99,7 +96,7 @@ overflow_sub-used c =
     -- The count before and the two entries after are the count after and the two entries before.
     let balance : sum a.n (outs c.hop.new.ws (nth a.joined.now) a.c) + (c.flow.result.out + c.flow-2.result.out)
     ≡ nth a.used.now a.c + (c.flow-3.result.out + c.flow-4.result.out) =
-        omega (arith, count_after a.n (c.hop.ensures.0 a.n 0 p.1).here p.2 p.3 p.0.apart, p.4.is, from_before, to_before, from_after, to_after) in
+    omega (arith, count_after a.n (c.hop.ensures.0 a.n 0 p.1).here p.2 p.3 p.0.apart, p.4.is, from_before, to_before, from_after, to_after) in
     omega (arith, balance)
 
 pub offset_bounds-used-c-2 : goal.offset_bounds-used-c-2

@@ -1,9 +1,8 @@
 -- `push::unused` meets its contract. The invariant: the places passed are 0.
-use borrow.Author.Rules.{rules}
 use native.Mathlib.Omega.{arith}
 use mathlib.Core.Path.{refl}
-use Prim.Native.Nat.{ℕ, ◌≤◌, ◌-◌}
-use Rattle.search.proofs.Tables.{Table, table_start, table_next}
+use Prim.Native.Nat.{ℕ}
+use Rattle.search.proofs.Tables.{table_start, table_next}
 use Rattle.search.proofs.push.unused.Goals as goal
 
 pub loop-c-init : goal.loop-c-init

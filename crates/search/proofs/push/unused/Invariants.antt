@@ -1,9 +1,6 @@
 -- `push::unused` meets its contract. The invariant: the places passed are 0.
-use borrow.Author.Rules.{rules}
-use native.Mathlib.Omega.{arith}
-use mathlib.Core.Path.{refl}
-use Prim.Native.Nat.{ℕ, ◌≤◌, ◌-◌}
-use Rattle.search.proofs.Tables.{Table, table_start, table_next}
+use Prim.Native.Nat.{◌≤◌, ◌-◌}
+use Rattle.search.proofs.Tables.{Table}
 use Rattle.search.proofs.push.unused.Given as goal
 
 abbrev pub invariant-loop-c : goal.invariant-loop-c

@@ -1,5 +1,4 @@
 -- `reach::arc` meets its contract: a weight below 2^16 times at most 127 fits.
-use borrow.Author.Rules.{rules}
 use native.Mathlib.Omega.{arith}
 use mathlib.Core.Path.{ap}
 use Prim.Native.Nat.{ℕ, ◌*◌}

@@ -1,5 +1,4 @@
 -- `reach::carry_to` meets its contract: the formula is put together from its parts.
-use borrow.Author.Rules.{rules}
 use Rattle.search.proofs.reach.carry_to.Goals as goal
 
 pub returns : goal.returns

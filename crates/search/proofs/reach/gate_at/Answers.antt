@@ -1,5 +1,4 @@
 -- `reach::gate_at` meets its contract: the arc's is the column's weight times the taxon's multiplicity.
-use borrow.Author.Rules.{rules}
 use native.Mathlib.Omega.{arith}
 use mathlib.Core.Path.{◌≡◌, ap, ◌∙◌}
 use mathlib.Core.List.{List}

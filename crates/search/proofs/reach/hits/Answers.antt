@@ -1,5 +1,4 @@
 -- `reach::hits` meets its contract: two sets share a taxon, or none.
-use borrow.Author.Rules.{rules}
 use borrow.Author.Tests.{ltb-true, ltb-false}
 use lib.Arith.{le-zero}
 use mathlib.Core.Path.{sym, ◌∙◌}

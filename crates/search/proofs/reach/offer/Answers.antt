@@ -1,5 +1,4 @@
 -- `reach::offer` meets its contract: four stores at j, or none.
-use borrow.Author.Rules.{rules}
 use native.Mathlib.Omega.{arith}
 use mathlib.Core.Path.{refl}
 use Rattle.search.specs.inner.Reaching.{stays, joins}

@@ -1,5 +1,4 @@
 -- `reach::pass` meets its contract: all that the column joins is met, or nobody sends, or one who leads wherever the others lead.
-use borrow.Author.Rules.{rules}
 use mathlib.Core.Path.{sym, ◌∙◌}
 use Rattle.taxa.specs.Sets.{◌∩◌}
 use Rattle.taxa.proofs.Members.{within_⊆, ∩-⊆, in∩}
@@ -23,7 +22,7 @@ pub returns-then-i-eq-NOBODY : goal.returns-then-i-eq-NOBODY
 returns-then-i-eq-NOBODY c =
     let leads : (let a = c.args in
     Leads a.weights.now a.planes.now a.joined.now a.limits.now a.n a.ws.now a.c (nth a.joined.now a.c ∩ a.met) c.sender-i.result) =
-        rw c.common-here.ensures at c.sender-i.ensures in
+    rw c.common-here.ensures at c.sender-i.ensures in
     let p = c.requires in
     cross_none p.0 p.2 p.1 (rw c.if-i-eq-NOBODY.true at (leads))
 
@@ -31,7 +30,7 @@ pub through-requires : goal.through-requires
 through-requires c =
     let leads : (let a = c.args in
     Leads a.weights.now a.planes.now a.joined.now a.limits.now a.n a.ws.now a.c (nth a.joined.now a.c ∩ a.met) c.sender-i.result) =
-        rw c.common-here.ensures at c.sender-i.ensures in
+    rw c.common-here.ensures at c.sender-i.ensures in
     let a = c.args in
     let p = c.requires in
     let h = (in∩ (nth a.joined.now a.c) a.met).0 (record { is = (leads).held c.if-i-eq-NOBODY.false }) in
@@ -41,6 +40,6 @@ pub returns : goal.returns
 returns c =
     let leads : (let a = c.args in
     Leads a.weights.now a.planes.now a.joined.now a.limits.now a.n a.ws.now a.c (nth a.joined.now a.c ∩ a.met) c.sender-i.result) =
-        rw c.common-here.ensures at c.sender-i.ensures in
+    rw c.common-here.ensures at c.sender-i.ensures in
     let p = c.requires in
     cross p.0 p.2 p.1 (leads) c.through.ensures

@@ -1,11 +1,5 @@
 -- `reach::plant` meets its contract. The invariant: all sources but those left are planted.
-use borrow.Author.Rules.{rules}
-use native.Mathlib.Omega.{arith}
-use mathlib.Core.Path.{◌≡◌, sym, ap, ◌∙◌}
-use Prim.Native.Nat.{ℕ, ◌^◌}
-use Rattle.taxa.specs.Sets.{◌∖◌}
 use Rattle.search.specs.inner.Reaching.{Planted}
-use Rattle.search.proofs.Reaching.{plant_none, plant_one}
 use Rattle.search.proofs.reach.plant.Given as goal
 
 abbrev pub invariant-loop-left : goal.invariant-loop-left

@@ -1,9 +1,6 @@
 -- `reach::reach` meets its contract. The invariant: `next` is what a whole sweep made of the tree of `met`. Each of those but the last meets somebody new.
 -- The first sweep, from any column, only has to leave a tree: before the loop `met` is empty, and nothing hops from nobody.
 use native.Mathlib.Omega.{arith}
-use Prim.Native.Nat.{◌-◌}
-use Rattle.taxa.specs.Sets.{all}
-use Rattle.search.specs.inner.Reaching.{Swept}
 use Rattle.search.proofs.Reaching.{root_alone, rooted_low, swept_none, swept_all}
 use Rattle.search.proofs.reach.reach.Goals as goal
 

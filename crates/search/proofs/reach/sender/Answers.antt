@@ -1,13 +1,11 @@
 -- `reach::sender` meets its contract. The invariant: of the taxa looked at none leads everywhere, and the one found sends.
-use borrow.Author.Rules.{rules}
 use native.Mathlib.Omega.{arith}
 use mathlib.Core.Path.{◌≡◌, sym, ap, ◌∙◌}
-use Prim.Native.Nat.{ℕ, ◌^◌, max}
+use Prim.Native.Nat.{ℕ, ◌^◌}
 use mathlib.Core.Bool.{true}
 use Rattle.taxa.specs.Sets.{has, ◌∖◌}
-use Rattle.search.specs.Workspace.{outs, inns}
 use Rattle.search.specs.Search.{nth}
-use Rattle.search.proofs.Reaching.{pair, gate_of, pair_asks, sends_of, free_of, Seeks, seek_start, seek_found, seek_skip, seek_take, seek_end, entry, used_fits, gate_up, gate_free}
+use Rattle.search.proofs.Reaching.{pair, gate_of, pair_asks, sends_of, free_of, seek_start, seek_found, seek_skip, seek_take, seek_end, entry, used_fits, gate_up, gate_free}
 use Rattle.search.proofs.reach.sender.Goals as goal
 use Rattle.search.proofs.reach.sender.Goals.{then-g-gt0+else-g-gt0-2, else-g-gt0}
 
@@ -45,9 +43,9 @@ returns-then-g-gt0-2 c =
     let joins : has (nth a.joined.now a.c) c.lowest-i.result ≡ true = (c.requires.2.sub (c.loop-left.invariant.inside.sub c.lowest-i.ensures.2)).is in
     let flows = c.flow-flow.ensures (nth a.joined.now) a.c c.column_at-column.ensures.0 joins in
     let sends : c.gate_at-g.result.sends ≡ sends_of a.weights.now a.planes.now a.joined.now a.limits.now a.n a.ws.now a.c a.x c.lowest-i.result =
-        gate_up p.0 p.1 (gate_of c.gate_at-g.ensures flows) joins in
+    gate_up p.0 p.1 (gate_of c.gate_at-g.ensures flows) joins in
     let free : c.gate_at-g.result.free ≡ free_of a.weights.now a.planes.now a.joined.now a.limits.now a.n a.ws.now a.c a.x c.lowest-i.result =
-        gate_free p.0 p.1 (gate_of c.gate_at-g.ensures flows) joins in
+    gate_free p.0 p.1 (gate_of c.gate_at-g.ensures flows) joins in
     let l = c.lowest-i.ensures in
     seek_found
     (c.loop-left.invariant.inside.sub l.2).is
@@ -67,9 +65,9 @@ loop-left-preserved c =
     let joins : has (nth a.joined.now a.c) c.lowest-i.result ≡ true = (c.requires.2.sub (c.loop-left.invariant.inside.sub c.lowest-i.ensures.2)).is in
     let flows = c.flow-flow.ensures (nth a.joined.now) a.c c.column_at-column.ensures.0 joins in
     let sends : c.gate_at-g.result.sends ≡ sends_of a.weights.now a.planes.now a.joined.now a.limits.now a.n a.ws.now a.c a.x c.lowest-i.result =
-        gate_up p.0 p.1 (gate_of c.gate_at-g.ensures flows) joins in
+    gate_up p.0 p.1 (gate_of c.gate_at-g.ensures flows) joins in
     let free : c.gate_at-g.result.free ≡ free_of a.weights.now a.planes.now a.joined.now a.limits.now a.n a.ws.now a.c a.x c.lowest-i.result =
-        gate_free p.0 p.1 (gate_of c.gate_at-g.ensures flows) joins in
+    gate_free p.0 p.1 (gate_of c.gate_at-g.ensures flows) joins in
     let q : c.rest-left.result ≡ v.left ∖ 2 ^ l.result = c.rest-left.ensures.0 ∙ ap (λ (y : ℕ). v.left ∖ 2 ^ y) (sym l.ensures.0) in
     elim c.if-g-gt0.branch [
       | then-g-gt0+else-g-gt0-2 w ↦ rw w.found-is (seek_take v.invariant l.result l.ensures.2.is q (omega (arith, sends, w.if-g-gt0.true)) (omega (arith, free, w.if-g-gt0-2.false)) l.ensures.1)

@@ -1,8 +1,6 @@
 -- `reach::sweep` meets its contract. The invariant: the hops of the taxa met before, through the columns passed, lead into the tree.
-use borrow.Author.Rules.{rules}
-use native.Mathlib.Omega.{arith}
 use Prim.Native.Nat.{◌-◌}
-use Rattle.search.proofs.Reaching.{Over, over_none, over_one}
+use Rattle.search.proofs.Reaching.{Over}
 use Rattle.search.proofs.reach.sweep.Given as goal
 
 abbrev pub invariant-loop-c : goal.invariant-loop-c

@@ -1,18 +1,16 @@
 -- `reach::through` meets its contract. The invariant: the taxa left are those that the column joins and that are not met, and the way to i is as it was.
-use borrow.Author.Rules.{rules}
 use native.Mathlib.Omega.{arith}
 use mathlib.Core.Path.{◌≡◌, refl, sym, ap, ap₂, ◌∙◌}
-use mathlib.Core.Bool.{true, false, true≢false}
+use mathlib.Core.Bool.{true, true≢false}
 use mathlib.Core.Logic.{◌≢◌}
 use mathlib.Core.List.{List}
 use lib.IntN.{ℤ}
 use Prim.Native.Nat.{ℕ, ◌+◌, ◌-◌, ◌*◌, ◌^◌, ◌<◌, min, max}
 use Rattle.taxa.specs.Sets.{has, ◌∖◌, multiplicity_in}
 use Rattle.taxa.proofs.Counts.{count_le}
-use Rattle.search.specs.Workspace.{outs, inns}
 use Rattle.search.specs.Search.{nth}
 use Rattle.search.specs.inner.Network.{Ready}
-use Rattle.search.specs.inner.Reaching.{carried, turn_of, width_of, Passed}
+use Rattle.search.specs.inner.Reaching.{carried, width_of}
 use Rattle.search.proofs.Reaching.{min_first, pair, gate_of, pair_asks, entry, used_fits, gate_carry, pass_start, pass_one, others, other_width, still_in, off_in}
 use Rattle.search.proofs.reach.through.Goals as goal
 
@@ -94,10 +92,10 @@ loop-left-preserved c =
     let takes = c.gate_at-gate.result.weight * multiplicity_in a.planes.now j + flow.out - flow.inn in
     let free = max c.gate_at-gate.result.free flow.out in
     let offers : c.carry_to-k.result ≡ min (carried a.weights.now a.planes.now a.joined.now a.limits.now a.n a.ws.now a.c a.i j) (width_of v.tree a.i) =
-        c.carry_to-k.ensures
-        ∙ ap (λ (s : ℕ). min (min s takes) free) c.least.ensures
-        ∙ min_first c.gate_at-gate.result.sends (width_of a.tree.now a.i) takes free
-        ∙ ap₂ (λ (x y : ℕ). min x y) (rw (flows_j.0, flows_j.1) (gate_carry p.0 p.2 is-gate p.3 j new.0)) (sym v.invariant.2) in
+    c.carry_to-k.ensures
+    ∙ ap (λ (s : ℕ). min (min s takes) free) c.least.ensures
+    ∙ min_first c.gate_at-gate.result.sends (width_of a.tree.now a.i) takes free
+    ∙ ap₂ (λ (x y : ℕ). min x y) (rw (flows_j.0, flows_j.1) (gate_carry p.0 p.2 is-gate p.3 j new.0)) (sym v.invariant.2) in
     let apart : a.i ≢ j = λ e. true≢false (sym (v.invariant.1.keeps a.i p.4) ∙ ap (has v.all) e ∙ new.1) in
     let q : c.rest-left.result ≡ v.left ∖ 2 ^ j = c.rest-left.ensures.0 ∙ ap (λ (y : ℕ). v.left ∖ 2 ^ y) (sym c.lowest-j.ensures.0) in (
       λ x y. let z = still_in v.left j x (ap (λ (u : ℕ). has u x) (sym q) ∙ y) in ((v.invariant.0 x z.0).0, others o x z.1 ∙ (v.invariant.0 x z.0).1),

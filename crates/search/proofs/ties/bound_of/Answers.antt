@@ -1,14 +1,13 @@
 -- `ties::bound_of` meets its contract. The invariant: to part one taxon alone costs less than the bound.
-use borrow.Author.Rules.{rules}
 use native.Mathlib.Omega.{arith}
-use mathlib.Core.Path.{◌≡◌, sym, ap, ap₂, ◌∙◌}
+use mathlib.Core.Path.{◌≡◌, sym, ap, ◌∙◌}
 use mathlib.Core.List.{List}
 use Prim.Native.Nat.{ℕ, ◌+◌, ◌*◌, ◌^◌, ◌≤◌}
 use Rattle.taxa.specs.Sets.{◌∖◌, multiplicity_in}
 use Rattle.taxa.proofs.Counts.{count_pos}
 use Rattle.search.specs.Search.{nth}
 use Rattle.search.specs.inner.Network.{flow_most, weight_most}
-use Rattle.search.proofs.Bonds.{times_small, Binding, binding_start, binding_one}
+use Rattle.search.proofs.Bonds.{times_small, binding_start, binding_one}
 use Rattle.search.proofs.ties.bound_of.Goals as goal
 
 -- What joins it, times what it stands for.

@@ -1,5 +1,4 @@
 -- `ties::tie_column` meets its contract: the column joins nobody, or all but its lowest taxon are tied.
-use borrow.Author.Rules.{rules}
 use native.Mathlib.Omega.{arith}
 use Rattle.search.proofs.Bonds.{column_none, column_added}
 use Rattle.search.proofs.ties.tie_column.Goals as goal

@@ -1,9 +1,6 @@
 -- `ties::ties_of` meets its contract. The invariant: what the columns passed tie, each at most 65,535.
-use borrow.Author.Rules.{rules}
 use native.Mathlib.Omega.{arith}
 use mathlib.Core.Path.{◌≡◌, refl}
-use Prim.Native.Nat.{◌*◌, ◌-◌, ◌≤◌}
-use Rattle.search.specs.inner.Trying.{Ties, Weighed, Few, SameLimits}
 use Rattle.search.proofs.Bonds.{few_next, few_more, few_none, same_then, ties_start, weighed_start, ties_next, weighed_next}
 use Rattle.search.proofs.ties.ties_of.Goals as goal
 

@@ -1,8 +1,7 @@
 -- `ties::untied` meets its contract. The invariant: the numbers passed are 0.
-use borrow.Author.Rules.{rules}
 use native.Mathlib.Omega.{arith}
-use Prim.Native.Nat.{◌+◌, ◌≤◌, ◌-◌}
-use Rattle.search.proofs.Bonds.{Blank, blank_start, blank_one}
+use Prim.Native.Nat.{◌+◌}
+use Rattle.search.proofs.Bonds.{blank_start, blank_one}
 use Rattle.search.proofs.ties.untied.Goals as goal
 
 pub returns : goal.returns

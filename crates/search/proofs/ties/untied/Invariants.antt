@@ -1,8 +1,6 @@
 -- `ties::untied` meets its contract. The invariant: the numbers passed are 0.
-use borrow.Author.Rules.{rules}
-use native.Mathlib.Omega.{arith}
-use Prim.Native.Nat.{◌+◌, ◌≤◌, ◌-◌}
-use Rattle.search.proofs.Bonds.{Blank, blank_start, blank_one}
+use Prim.Native.Nat.{◌≤◌, ◌-◌}
+use Rattle.search.proofs.Bonds.{Blank}
 use Rattle.search.proofs.ties.untied.Given as goal
 
 abbrev pub invariant-loop-p : goal.invariant-loop-p

@@ -1,5 +1,4 @@
 -- `spelling::spell::spell_name` meets its contract: the bytes that were found are the name, and they are put where they belong.
-use borrow.Author.Rules.{rules}
 use mathlib.Core.Path.{◌≡◌, sym, ap, ◌∙◌}
 use mathlib.Core.List.{List}
 use Prim.Native.Nat.{ℕ, ◌+◌, ◌-◌}
@@ -14,6 +13,7 @@ use Rattle.spelling.proofs.spell.spell_name.Goals as goal
 module _ {list : List ℕ} {taxon : ℕ} {r : Found} (f : Locates list taxon r) where
   found_is : take (r.place + r.length - r.place) (drop r.place list) ≡ name_in list taxon
   found_is = let e : r.place + r.length - r.place ≡ r.length = omega arith in ap (λ k. take k (drop r.place list)) e ∙ f.is
+
   found_long : length (name_in list taxon) ≡ r.length
   found_long = ap length (sym f.is) ∙ simp (length-take, length-drop) (omega (arith, f.within))
 

@@ -1,5 +1,4 @@
 -- `spelling::spell::wider` meets its contract: its two arms are those of the definition.
-use borrow.Author.Rules.{rules}
 use Rattle.clades.specs.Draw.{wider}
 use Rattle.spelling.proofs.spell.wider.Goals as goal
 

@@ -1,12 +1,8 @@
 -- `columns::flip_columns` meets its contract. The invariant: the first c columns are flipped, and the others as they were.
-use borrow.Author.Rules.{rules}
-use native.Mathlib.Omega.{arith}
 use Prim.Native.Nat.{◌≤◌, ◌-◌}
 use lib.ListN.{length}
 use Rattle.taxa.specs.Sets.{multiplicity_in}
-use Rattle.search.specs.Search.{cols_of}
-use Rattle.split.proofs.Filling.{fill_none}
-use Rattle.split.proofs.Flipping.{Flipping, flip_next, all_flipped, still_parallel}
+use Rattle.split.proofs.Flipping.{Flipping}
 use Rattle.split.proofs.columns.flip_columns.Given as goal
 
 abbrev pub invariant-loop-c : goal.invariant-loop-c

@@ -1,9 +1,7 @@
 -- `columns::load` meets its contract. The invariant: the first c entries of each list are those of the file's columns.
 use native.Mathlib.Omega.{arith}
-use Prim.Native.Nat.{◌≤◌, ◌-◌}
-use lib.ListN.{length}
 use Rattle.split.proofs.Filling.{fill_none}
-use Rattle.split.proofs.Loading.{Loading, load_next, all_loaded, still_parallel}
+use Rattle.split.proofs.Loading.{load_next, all_loaded, still_parallel}
 use Rattle.split.proofs.columns.load.Goals as goal
 
 pub loop-c-init : goal.loop-c-init

@@ -1,5 +1,4 @@
 -- `columns::lower` meets its contract, set by set.
-use borrow.Author.Rules.{rules}
 use Rattle.method.specs.Split.{lower}
 use Rattle.split.proofs.columns.lower.Goals as goal
 

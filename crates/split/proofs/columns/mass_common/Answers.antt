@@ -1,5 +1,4 @@
 -- `columns::mass_common` meets its contract.
-use borrow.Author.Rules.{rules}
 use mathlib.Core.Path.{ap, ◌∙◌}
 use Rattle.taxa.specs.Sets.{mass, multiplicity_in}
 use Rattle.split.proofs.columns.mass_common.Goals as goal

@@ -1,8 +1,6 @@
 -- `columns::one_entries` meets its contract. The invariant: the sizes of the 1-sets passed, added up.
-use borrow.Author.Rules.{rules}
 use native.Mathlib.Omega.{arith}
 use mathlib.Core.Path.{◌≡◌, refl}
-use Prim.Native.Nat.{◌≤◌, ◌-◌}
 use Rattle.taxa.specs.Sum.{sum}
 use Rattle.taxa.specs.Sets.{sizes}
 use Rattle.taxa.proofs.Counts.{count_le}
@@ -31,4 +29,4 @@ pub returns : goal.returns
 unfolding one_entries
 returns c =
     let e : c.loop-c.c ≡ c.args.m = omega arith in
-    rw (e, c.requires.0) c.before.before.before c.loop-c.invariant.1
+    rw (e, c.requires.0) at c.loop-c.invariant.1

@@ -1,5 +1,4 @@
 -- `columns::raise` meets its contract, set by set.
-use borrow.Author.Rules.{rules}
 use Rattle.method.specs.Split.{raise}
 use Rattle.split.proofs.columns.raise.Goals as goal
 

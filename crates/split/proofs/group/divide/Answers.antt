@@ -1,5 +1,4 @@
 -- `group::divide` meets its contract: what the search finds is the method's split, and the numbers that it used are cleared.
-use borrow.Author.Rules.{rules}
 use Rattle.split.proofs.Dividing.{found_split, used_cleared}
 use Rattle.split.proofs.group.divide.Goals as goal
 

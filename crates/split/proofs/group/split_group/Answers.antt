@@ -1,5 +1,4 @@
 -- `group::split_group` meets its contract, by what it calls.
-use borrow.Author.Rules.{rules}
 use Rattle.split.proofs.Dividing.{handed_on}
 use Rattle.split.proofs.group.split_group.Goals as goal
 

@@ -1,5 +1,4 @@
 -- `parts::grow` meets its contract: each return is a case of what a column adds.
-use borrow.Author.Rules.{rules}
 use mathlib.Core.Path.{sym, ◌∙◌}
 use Rattle.split.proofs.Growing.{no_zero, no_one, joins}
 use Rattle.split.proofs.parts.grow.Goals as goal

@@ -1,13 +1,10 @@
 -- `parts::part` meets its contract. The invariant: the taxa met are of the part, and `next` is what a sweep makes of them. They grow while the sweep
 -- adds some, and stay within the group.
-use borrow.Author.Rules.{rules}
-use native.Mathlib.Omega.{arith}
 use mathlib.Core.Path.{◌≡◌}
-use Prim.Native.Nat.{◌<◌, ◌-◌, ◌^◌}
+use Prim.Native.Nat.{◌-◌}
 use lib.ListN.{length}
-use Rattle.taxa.proofs.Members.{below, ⊆-≤}
 use Rattle.split.specs.inner.Parts.{swept}
-use Rattle.split.proofs.Growing.{Grown, grow_start, grow_on, grown_part}
+use Rattle.split.proofs.Growing.{Grown}
 use Rattle.split.proofs.parts.part.Given as goal
 
 abbrev pub invariant-loop-met : goal.invariant-loop-met

@@ -1,5 +1,4 @@
 -- `tree::answers::as_built` meets its contract.
-use borrow.Author.Rules.{rules}
 use mathlib.Core.Path.{sym, ap}
 use Rattle.tree.specs.inner.Grow.{written_as}
 use Rattle.tree.proofs.answers.as_built.Goals as goal

@@ -1,5 +1,4 @@
 -- `tree::answers::write_tree` meets its contract: the value holds its tree, and no flips.
-use borrow.Author.Rules.{rules}
 use mathlib.Core.Path.{refl}
 use Rattle.tree.proofs.Writing.{tree_only, answers_as}
 use Rattle.tree.proofs.answers.write_tree.Goals as goal

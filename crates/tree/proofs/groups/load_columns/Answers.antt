@@ -1,5 +1,4 @@
 -- `tree::groups::load_columns` meets its contract: the columns are loaded into the first entries.
-use borrow.Author.Rules.{rules}
 use mathlib.Core.Path.{sym, ◌∙◌}
 use lib.Seq.{length-take-le}
 use Rattle.tree.proofs.Building.{in_front}
@@ -14,7 +13,7 @@ load-requires c =
 pub returns : goal.returns
 returns c =
     let l = c.load in
-    in_front c.args.m _ l.new.1.0 l.new.1.1.0 l.new.1.1.1.0 _ _ _ l.ensures.0 l.ensures.1
+    in_front c.args.m _ l.new.weights l.new.ones l.new.zeros _ _ _ l.ensures.0 l.ensures.1
     (l.ensures.2 ∙ length-take-le _ _ c.requires.1)
 
 pub slice_bounds-load-end : goal.slice_bounds-load-end

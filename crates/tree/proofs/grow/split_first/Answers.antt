@@ -1,5 +1,4 @@
 -- `tree::grow::split_first` meets its contract: the entries that are lent are the first, and they come back in front of the others.
-use borrow.Author.Rules.{rules}
 use mathlib.Core.Path.{sym}
 use mathlib.Core.List.{List, ◌++◌}
 use Prim.Native.Nat.{ℕ}

@@ -2,8 +2,7 @@
 use borrow.Author.Rules.{rules}
 use native.Mathlib.Omega.{arith}
 use mathlib.Core.Path.{◌≡◌, refl}
-use Prim.Native.Nat.{◌+◌, ◌-◌, ◌≤◌}
-use lib.ListN.{length}
+use Prim.Native.Nat.{◌+◌}
 use Rattle.method.specs.Tree.{ordered}
 use Rattle.tree.specs.Lists.{first_groups}
 use Rattle.tree.proofs.Lists.{ordered_next, ordered_more, ordered_size}
@@ -28,10 +27,10 @@ loop-i-preserved c =
     let l = c.loop-i in
     let a = c.args in
     let next = ordered_size l.i (first_groups a.walked.now a.paid.now a.k) in
-    (search rules, omega (arith, kept.ensures.0), search rules, search rules, rw (ordered_next, ← l.invariant.4) kept.ensures.1)
+    (search rules, omega (arith, kept.ensures.size), search rules, search rules, rw (ordered_next, ← l.invariant.4) kept.ensures.list)
 
 pub returns : goal.returns
 returns c =
     let l = c.loop-i in
     let all : l.i ≡ c.args.n = omega arith in
-    rw (← all) (l.invariant.1, l.invariant.4)
+    rw (← all) (record { size = l.invariant.1; list = l.invariant.4 })

@@ -1,12 +1,9 @@
 -- `tree::order::in_order` meets its contract. The invariant: what stands are the groups whose lowest taxon is below i, in file order.
-use borrow.Author.Rules.{rules}
-use native.Mathlib.Omega.{arith}
-use mathlib.Core.Path.{◌≡◌, refl}
-use Prim.Native.Nat.{◌+◌, ◌-◌, ◌≤◌}
+use mathlib.Core.Path.{◌≡◌}
+use Prim.Native.Nat.{◌-◌, ◌≤◌}
 use lib.ListN.{length}
 use Rattle.method.specs.Tree.{ordered}
 use Rattle.tree.specs.Lists.{first_groups}
-use Rattle.tree.proofs.Lists.{ordered_next, ordered_more, ordered_size}
 use Rattle.tree.proofs.order.in_order.Given as goal
 
 abbrev pub invariant-loop-i : goal.invariant-loop-i

@@ -2,9 +2,7 @@
 use borrow.Author.Rules.{rules}
 use native.Mathlib.Omega.{arith}
 use mathlib.Core.Path.{◌≡◌, refl, sym, ◌∙◌}
-use mathlib.Core.List.{◌++◌, append-nil, append_assoc}
-use Prim.Native.Nat.{◌+◌, ◌-◌, ◌≤◌}
-use lib.ListN.{length}
+use mathlib.Core.List.{append-nil, append_assoc}
 use Rattle.method.specs.Tree.{kept}
 use Rattle.tree.specs.Lists.{first_groups}
 use Rattle.tree.specs.inner.Lists.{starts_at}
@@ -29,10 +27,10 @@ loop-g-preserved c =
     let l = c.loop-g in
     let a = c.args in
     let more = rw (← starts) at (kept_size (starts_at a.i) a.walked.now a.paid.now l.g) in
-    (search rules, omega (arith, put.ensures.0), search rules, search rules, rw (kept_next, ← starts, ← append_assoc, ← l.invariant.4) put.ensures.1)
+    (search rules, omega (arith, put.ensures.size), search rules, search rules, rw (kept_next, ← starts, ← append_assoc, ← l.invariant.4) put.ensures.list)
 
 pub returns : goal.returns
 returns c =
     let l = c.loop-g in
     let all : l.g ≡ c.args.k = omega arith in
-    rw (← all) (l.invariant.1, l.invariant.4)
+    rw (← all) (record { size = l.invariant.1; list = l.invariant.4 })

@@ -1,14 +1,11 @@
 -- `tree::order::keep_lowest` meets its contract. The invariant: what stands is what stood, and what is kept of the groups passed.
-use borrow.Author.Rules.{rules}
-use native.Mathlib.Omega.{arith}
-use mathlib.Core.Path.{◌≡◌, refl, sym, ◌∙◌}
-use mathlib.Core.List.{◌++◌, append-nil, append_assoc}
+use mathlib.Core.Path.{◌≡◌}
+use mathlib.Core.List.{◌++◌}
 use Prim.Native.Nat.{◌+◌, ◌-◌, ◌≤◌}
 use lib.ListN.{length}
 use Rattle.method.specs.Tree.{kept}
 use Rattle.tree.specs.Lists.{first_groups}
 use Rattle.tree.specs.inner.Lists.{starts_at}
-use Rattle.tree.proofs.Lists.{kept_next, kept_size, kept_room}
 use Rattle.tree.proofs.order.keep_lowest.Given as goal
 
 abbrev pub invariant-loop-g : goal.invariant-loop-g

@@ -1,17 +1,11 @@
 -- `tree::order::list_flips` meets its contract. The invariant: what stands are the flips of the columns passed, and the columns ahead are as they were.
-use borrow.Author.Rules.{rules}
-use native.Mathlib.Omega.{arith}
-use mathlib.Core.Path.{◌≡◌, refl, sym, ap, ◌∙◌}
+use mathlib.Core.Path.{◌≡◌}
 use Prim.Native.Nat.{◌-◌, ◌≤◌}
 use lib.ListN.{length}
-use Rattle.taxa.specs.Sets.{◌∩◌}
-use Rattle.method.specs.Split.{Column}
 use Rattle.method.specs.Tree.{column, flip_list}
-use Rattle.split.specs.Columns.{column_of, matrix_in}
-use Rattle.split.proofs.Loading.{file_column}
+use Rattle.split.specs.Columns.{matrix_in}
 use Rattle.tree.specs.Lists.{first_flips}
 use Rattle.tree.specs.inner.Lists.{SameFrom, unweighed}
-use Rattle.tree.proofs.Lists.{list_next, list_size, list_few, same_all, same_on}
 use Rattle.tree.proofs.order.list_flips.Given as goal
 
 abbrev pub invariant-loop-c : goal.invariant-loop-c
@@ -23,4 +17,3 @@ invariant-loop-c l =
 
 abbrev pub decreases-loop-c : goal.decreases-loop-c
 decreases-loop-c l = l.m - l.c
--- ---- the way back from each call

@@ -1,5 +1,4 @@
 -- `tree::order::put_group` meets its contract: where the test holds two stores make one group more.
-use borrow.Author.Rules.{rules}
 use native.Mathlib.Omega.{arith}
 use mathlib.Core.List.{append-nil}
 use mathlib.Core.Path.{refl, sym}
@@ -22,7 +21,7 @@ pub overflow_add-result : goal.overflow_add-result
 overflow_add-result c = let room = c.requires c.if-take.true in omega arith
 
 pub returns-then-take : goal.returns-then-take
-returns-then-take c = let (t, s) = c.requires c.if-take.true in rw c.if-take.true (refl, lists.put_group _ _ _ _ _ t s)
+returns-then-take c = let (t, s) = c.requires c.if-take.true in rw c.if-take.true (record { size = refl; list = lists.put_group _ _ _ _ _ t s })
 
 pub returns : goal.returns
-returns c = rw c.if-take.false (omega arith, sym (append-nil _))
+returns c = rw c.if-take.false (record { size = omega arith; list = sym (append-nil _) })

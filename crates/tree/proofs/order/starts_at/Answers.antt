@@ -1,5 +1,4 @@
 -- `tree::order::starts_at` meets its contract.
-use borrow.Author.Rules.{rules}
 use Rattle.tree.proofs.order.starts_at.Goals as goal
 
 pub returns : goal.returns

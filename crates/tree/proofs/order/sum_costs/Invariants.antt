@@ -1,11 +1,8 @@
 -- `tree::order::sum_costs` meets its contract. The invariant: the total is the sum of the costs passed.
-use borrow.Author.Rules.{rules}
-use native.Mathlib.Omega.{arith}
-use mathlib.Core.Path.{◌≡◌, refl}
-use Prim.Native.Nat.{ℕ, ◌+◌, ◌-◌, ◌≤◌}
+use mathlib.Core.Path.{◌≡◌}
+use Prim.Native.Nat.{◌-◌, ◌≤◌}
 use lib.ListN.{get_or}
 use Rattle.taxa.specs.Sum.{sum}
-use Rattle.taxa.proofs.Sums.{sum_next, sum_mono}
 use Rattle.tree.proofs.order.sum_costs.Given as goal
 
 abbrev pub invariant-loop-i : goal.invariant-loop-i
