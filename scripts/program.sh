@@ -78,7 +78,7 @@ lock() {
 sum_of() { # CRATE
     (
         cd "$top"
-        rt version
+        rt version </dev/null
         for crate in $(scripts/layers "$1"); do
             find "crates/$crate" -regex '[^/]*/[^/]*/\(src\|specs\|proofs\)/.*' -type f -exec sha256sum {} + 2>/dev/null | sort
         done
