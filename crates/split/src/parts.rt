@@ -51,7 +51,7 @@ pub fn parts(ones: &[u64], zeros: &[u64], group: u64, list: &mut [u64]) -> usize
 {
     let mut left = group;
     let mut number = 0;
-    while 0 < left {
+    'each_part: while 0 < left {
         let it = part(ones, zeros, group, taxa::lowest(left));
         list[number] = it;
         left = taxa::difference(left, it);
