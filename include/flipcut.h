@@ -12,9 +12,9 @@
  * kept after a call, and nothing is written but what is said to be. What is
  * written must not overlap anything else that the same call is given.
  *
- * Stack: a call of the build takes 39,328 bytes at most, of the tree 39,392, of
- * the flips 40,496, of the split 12,256, of the reading 9,384, of the writing
- * 8,024, of the score 3,352, of the check 120. Measured on x86-64 for 64 taxa
+ * Stack: a call of the build takes 32,224 bytes at most, of the tree 32,240, of
+ * the flips 33,328, of the split 12,160, of the reading 8,872, of the writing
+ * 8,008, of the score 3,272, of the check 104. Measured on x86-64 for 64 taxa
  * and 256 columns, the most there can be; every release keeps below 40 KiB for
  * the first three, 12 for the next three, 4 for the score and 1 for the check.
  */
