@@ -20,8 +20,8 @@ pub fn put_group(
 ) -> usize
     requires { take ≡ true → (at < length taxa.old) × (at < length costs.old) }
     ensures size { result ≡ at + cond take 1 0 }
-    ensures list { first_groups taxa.exit.now costs.new result
-        ≡ first_groups taxa.entry.now costs.old at ++ cond take (record { taxa = group; cost = cost } ∷ []) [] }
+    ensures list { first_groups taxa.new costs.new result
+        ≡ first_groups taxa.old costs.old at ++ cond take (record { taxa = group; cost = cost } ∷ []) [] }
 {
     if take {
         taxa[at] = group;
