@@ -1,3 +1,4 @@
 -- Numbers as bytes, and records.
 pub mod Bytes
 pub mod Records
+pub mod Refusals

@@ -1,14 +1,14 @@
 -- Records (document 01): "length (2 bytes, payload only), kind (2 bytes), payload". What reading one finds, and how one is written.
-use Rattle.std.specs.Prelude.{Bool, ◌&&◌, ◌||◌, cond, List, ◌++◌, ℕ, ◌+◌, ◌-◌, ◌%◌, length, ltb, leb, eqb}
+use Rattle.std.specs.Prelude.{Bool, ◌&&◌, ◌||◌, cond, List, ◌++◌, ℕ, ◌+◌, ◌-◌, ◌%◌, length, ltb, leb, eqb, Result, Ok, Err}
 use Rattle.record.specs.Bytes.{number_at, bytes_of}
 use Rattle.record.specs.declared.Cursor.{Cursor}
 use Rattle.record.specs.declared.Record.{Record}
 use Rattle.record.specs.declared.Varying.{Varying}
-use Rattle.record.specs.declared.Refusal.{Refusal}
+use Rattle.record.specs.declared.refusal.Reason.{Reason}
+use Rattle.record.specs.declared.refusal.Reason.TheVariants.{CutShort, Unexpected, Trailing}
+use Rattle.record.specs.declared.refusal.Refusal.{Refusal}
 use Rattle.record.specs.declared.Step.{Step}
 use Rattle.record.specs.declared.Step.TheVariants.{Payload, Refused}
-use Rattle.record.specs.declared.Passed.{Passed}
-use Rattle.record.specs.declared.Passed.TheVariants as passed
 
 -- ---- "Each record kind has one number"
 
@@ -73,18 +73,22 @@ multiplicity_record n = record { kind = multiplicities; length = n }
 abbrev pub left : List ℕ → ℕ → ℕ
 left file at = length file - at
 
--- A refusal of a number, at a place.
-abbrev pub refused : ℕ → ℕ → Refusal
-refused number place = record { number = number; place = place }
+-- A refusal for a reason, at a place.
+abbrev pub refused : Reason → ℕ → Refusal
+refused reason place = record { reason = reason; place = place }
+
+-- What a reading that keeps no values comes to: the cursor moved on, or the refusal.
+abbrev pub Passed : Type 0
+Passed = Result Cursor Refusal
 
 -- Reading a record: "fewer than 4 bytes left (1), kind or length (2), payload short (1)", each at the record's start.
 unfoldable pub step : List ℕ → ℕ → Record → Step
 step file at expected =
-    cond (ltb (left file at) 4) (Refused (refused 1 at))
+    cond (ltb (left file at) 4) (Refused (refused CutShort at))
     (cond (eqb (number_at 2 file (at + 2)) expected.kind && eqb (number_at 2 file at) expected.length)
-    (cond (ltb (left file at - 4) expected.length) (Refused (refused 1 at))
+    (cond (ltb (left file at - 4) expected.length) (Refused (refused CutShort at))
     (Payload (at + 4) (record { at = at + 4 + expected.length })))
-    (Refused (refused 2 at)))
+    (Refused (refused Unexpected at)))
 
 -- Whether a record's length may be this: the least, or a multiple of `by` more, up to the most.
 unfoldable pub allowed : Varying → ℕ → Bool
@@ -102,29 +106,24 @@ varying_step file at v = step file at (varied v (number_at 2 file at))
 unfoldable pub finds : List ℕ → ℕ → ℕ → Bool
 finds file at kind = leb 4 (left file at) && eqb (number_at 2 file (at + 2)) kind
 
--- Of a step that was refused, why.
-abbrev pub refusal_of : Step → Refusal
-refusal_of (Payload at next) = refused 0 at
-refusal_of (Refused why) = why
-
--- Of a reading that was refused, why.
-abbrev pub passed_refusal : Passed → Refusal
-passed_refusal (passed.At here) = refused 0 here.at
-passed_refusal (passed.Refused why) = why
+-- Past a record, whatever its payload holds.
+abbrev pub past : Step → Passed
+past (Payload at next) = Ok next
+past (Refused why) = Err why
 
 -- "A record other than the expected one ends the reading at once": a payload is judged, a refusal goes straight out.
 abbrev pub judged : Step → (ℕ → Cursor → Passed) → Passed
 judged (Payload at next) judge = judge at next
-judged (Refused why) judge = passed.Refused why
+judged (Refused why) judge = Err why
 
 -- One reading after another.
 abbrev pub onward : Passed → (Cursor → Passed) → Passed
-onward (passed.At here) go = go here
-onward (passed.Refused why) go = passed.Refused why
+onward (Ok here) go = go here
+onward (Err why) go = Err why
 
 -- "Bytes after the end record" are refused by 8, at the first of them.
 unfoldable pub nothing_after : List ℕ → Cursor → Passed
-nothing_after file here = cond (ltb 0 (left file here.at)) (passed.Refused (refused 8 here.at)) (passed.At here)
+nothing_after file here = cond (ltb 0 (left file here.at)) (Err (refused Trailing here.at)) (Ok here)
 
 -- The length and the kind of a record, as it starts.
 unfoldable pub opening_of : Record → List ℕ

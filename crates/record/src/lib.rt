@@ -1,24 +1,20 @@
 // Records of a file: what each kind looks like, one record in by a cursor, numbers and records out.
-// Promises: reading a record and writing one are what specs/ says, for any bytes and any place.
+// Promises: reading a record and writing one are what specs/ says, for any bytes and any place, and so are the numbers of refusals.
 // Rests on nothing.
 #![tactic(auto)]
 
 pub mod number;
+pub mod refusal;
 pub mod writer;
 
 ghost use Rattle.std.specs.Prelude.{◌≡◌, ◌+◌, ◌*◌, ◌≤◌, ◌<◌, length};
 ghost use Rattle.record.specs.Bytes.{equal};
-ghost use Rattle.record.specs.Records.{record_of, multiplicity_record, left, step, refusal_of, passed_refusal, nothing_after};
+ghost use Rattle.record.specs.Records.{record_of, multiplicity_record, left, step, refused, past, nothing_after};
 ghost use Rattle.record.specs.Records.{allowed, varied, varying_step, finds};
 
 use number::{u16_at, u32_at};
-
-// Why and where an input is refused: document 01's number and place.
-#[derive(Clone, Copy)]
-pub struct Refusal {
-    pub number: u8,
-    pub place: usize,
-}
+use refusal::Reason;
+pub use refusal::Refusal;
 
 // What a record says of itself: its kind and how long its payload is.
 #[derive(Clone, Copy)]
@@ -126,17 +122,11 @@ pub struct Cursor {
     pub at: usize,
 }
 
-// What reading a record finds: its payload's place with the cursor moved on, or the refusal.
+// What reading a record finds: its payload's place with the cursor moved on, or the refusal. (An enum of its own and no Result: document 01 has it taken
+// apart by let .. else.)
 #[derive(Clone, Copy)]
 pub enum Step {
     Payload(usize, Cursor),
-    Refused(Refusal),
-}
-
-// Where a reading that keeps no values stands: at the cursor moved on, or refused.
-#[derive(Clone, Copy)]
-pub enum Passed {
-    At(Cursor),
     Refused(Refusal),
 }
 
@@ -163,29 +153,17 @@ impl Cursor {
         let at = self.at;
         let left = self.left(file);
         if left < 4 {
-            return Step::Refused(Refusal {
-                number: 1,
-                place: at,
-            });
+            return Step::refused(Reason::CutShort, at);
         }
         if u16_at(file, at + 2) != expected.kind {
-            return Step::Refused(Refusal {
-                number: 2,
-                place: at,
-            });
+            return Step::refused(Reason::Unexpected, at);
         }
         if u16_at(file, at) != expected.length {
-            return Step::Refused(Refusal {
-                number: 2,
-                place: at,
-            });
+            return Step::refused(Reason::Unexpected, at);
         }
         let length = expected.length as usize;
         if left - 4 < length {
-            return Step::Refused(Refusal {
-                number: 1,
-                place: at,
-            });
+            return Step::refused(Reason::CutShort, at);
         }
         Step::Payload(
             at + 4,
@@ -202,10 +180,7 @@ impl Cursor {
     {
         let at = self.at;
         if u32_at(file, at) != expected.opening() {
-            return Step::Refused(Refusal {
-                number: 2,
-                place: at,
-            });
+            return Step::refused(Reason::Unexpected, at);
         }
         Step::Payload(
             at + 4,
@@ -222,10 +197,7 @@ impl Cursor {
     {
         let at = self.at;
         if self.left(file) < 4 {
-            return Step::Refused(Refusal {
-                number: 1,
-                place: at,
-            });
+            return Step::refused(Reason::CutShort, at);
         }
         self.read(file, expected.standing(u16_at(file, at)))
     }
@@ -242,45 +214,33 @@ impl Cursor {
     }
 
     // Past the end record: nothing may follow.
-    pub fn nothing_after(self, file: &[u8]) -> Passed
+    pub fn nothing_after(self, file: &[u8]) -> Result<Self, Refusal>
         ensures { result ≡ nothing_after file.now self }
     {
         if 0 < self.left(file) {
-            return Passed::Refused(Refusal {
-                number: 8,
+            return Err(Refusal {
+                reason: Reason::Trailing,
                 place: self.at,
             });
         }
-        Passed::At(self)
+        Ok(self)
     }
 }
 
 impl Step {
-    // Of a step that was refused, why.
-    pub fn refusal(self) -> Refusal
-        ensures { result ≡ refusal_of self }
+    fn refused(reason: Reason, place: usize) -> Self
+        ensures { result ≡ Step.Refused (refused reason place) }
     {
-        match self {
-            Step::Refused(why) => why,
-            Step::Payload(at, _) => Refusal {
-                number: 0,
-                place: at,
-            },
-        }
+        Step::Refused(Refusal { reason, place })
     }
-}
 
-impl Passed {
-    // Of a reading that was refused, why.
-    pub fn refusal(self) -> Refusal
-        ensures { result ≡ passed_refusal self }
+    // Past the record, whatever its payload holds; or why it was refused.
+    pub fn past(self) -> Result<Cursor, Refusal>
+        ensures { result ≡ past self }
     {
         match self {
-            Passed::Refused(why) => why,
-            Passed::At(here) => Refusal {
-                number: 0,
-                place: here.at,
-            },
+            Step::Payload(_, next) => Ok(next),
+            Step::Refused(why) => Err(why),
         }
     }
 }
