@@ -10,11 +10,9 @@ use Rattle.taxa.proofs.Members.{set_fits}
 use Rattle.taxa.proofs.Sums.{sum_next, sum_mono}
 use Rattle.record.specs.Bytes.{number_at, bytes_of}
 use Rattle.record.specs.Records as records
-use Rattle.record.specs.Records.{record_of, record_bytes, payload, step}
+use Rattle.record.specs.Records.{record_of, record_bytes, payload, step, Passed}
 use Rattle.record.specs.declared.Cursor.{Cursor}
 use Rattle.record.specs.declared.Step.TheVariants.{Payload}
-use Rattle.record.specs.declared.Passed.{Passed}
-use Rattle.record.specs.declared.Passed.TheVariants.{At}
 use Rattle.record.proofs.Numbers.{length_bytes, field_read}
 use Rattle.record.proofs.Steps.{content_stands, record_taken, none_after}
 use Rattle.answer.specs.Content.{Content, run, head_bytes, group_bytes, flips_bytes, end_bytes, group_record, flips_record, file_of, length_of, content_in, group_count, flip_count, taxa_in, costs_in, columns_from, raised_from, lowered_from, flips_start}
@@ -27,6 +25,7 @@ use Rattle.answer.proofs.Walks.{walk_carries, given_head, given_group, given_ent
 use Rattle.answer.proofs.Stages.{Staged, staged, ends_with}
 use Rattle.answer.proofs.Files.{ends}
 use Rattle.answer.proofs.Meaning.{fewer_groups, passes_exactly}
+use Rattle.std.specs.Prelude.{Ok}
 
 -- A record that a step takes is met in a file as it is met as given.
 alike : (file : List ℕ) (kind : ℕ) (here : Cursor) (go : Cursor → Passed) {at : ℕ} → Payload at (record { at = here.at + 4 + payload kind }) ≡ step file here.at (record_of kind)
@@ -106,7 +105,7 @@ module _ {c : Content} (lawful : Lawful c) where
         alike file records.group here _
         (record_taken file group_payload r here.at (record_of records.group) (rw at e) (lit< tt) (lit< tt) (simp (length-append, length_bytes)))
 
-  groups_alike : At stages.flips ≡ walk (group_test (in_file file) c.n c.taxa) c.groups stages.first
+  groups_alike : Ok stages.flips ≡ walk (group_test (in_file file) c.n c.taxa) c.groups stages.first
   groups_alike =
       let at₁ = (given_head _ _ _ _ _ stages.head_passed).1 in
       walk_carries (group_test (in_file file) c.n c.taxa) (group_test as_given c.n c.taxa) 16 (λ i here next e. (given_group c.n c.taxa i here e).1)
@@ -148,7 +147,7 @@ module _ {c : Content} (lawful : Lawful c) where
         alike file records.flips here _
         (record_taken file entry_payload r here.at (record_of records.flips) (rw at e) (lit< tt) (lit< tt) (simp (length-append, length_bytes)))
 
-  flips_alike : At stages.end ≡ walk (flips_test (in_file file) c.n c.m c.columns c.raised c.lowered) c.flips stages.flips
+  flips_alike : Ok stages.end ≡ walk (flips_test (in_file file) c.n c.m c.columns c.raised c.lowered) c.flips stages.flips
   flips_alike =
       let at₁ = (given_head _ _ _ _ _ stages.head_passed).1 in
       let at₂ = given_groups_move c.n c.groups c.taxa stages.first stages.groups_passed in
@@ -173,7 +172,7 @@ module _ {c : Content} (lawful : Lawful c) where
 
   -- ---- the whole file
 
-  passes_in_file : At (record { at = length_of c }) ≡ tests (in_file file) c c.flips
+  passes_in_file : Ok (record { at = length_of c }) ≡ tests (in_file file) c c.flips
   passes_in_file =
       stages.end_passed_lem ∙ end_alike ∙ ends_with (in_file file) c c.flips (stages.head_passed ∙ head_alike) groups_alike flips_alike
 
@@ -197,7 +196,7 @@ module _ {c : Content} (lawful : Lawful c) where
       })
 
   -- "The encoding of any content that keeps the rules is accepted .."
-  pub file_taken : At (record { at = length_of c }) ≡ file_tests file
+  pub file_taken : Ok (record { at = length_of c }) ≡ file_tests file
   file_taken =
       let same = ap (λ (x : Content). tests (in_file file) x x.flips) (sym file_holds) in
       none_after file (record { at = length_of c }) (omega (arith, length_file c)) ∙ ends file (passes_in_file ∙ same)

@@ -7,11 +7,9 @@ use lib.Dec.{ltb}
 use lib.ListN.{length}
 use borrow.Author.Tests.{ltb-false}
 use Rattle.record.specs.Bytes.{number_at}
-use Rattle.record.specs.Records.{left, nothing_after}
+use Rattle.record.specs.Records.{left, nothing_after, Passed}
 use Rattle.record.specs.declared.Cursor.{Cursor}
-use Rattle.record.specs.declared.Refusal.{Refusal}
-use Rattle.record.specs.declared.Passed.{Passed}
-use Rattle.record.specs.declared.Passed.TheVariants.{At, Refused}
+use Rattle.record.specs.declared.refusal.Refusal.{Refusal}
 use Rattle.record.proofs.Passing.{unless, through}
 use Rattle.answer.specs.Content.{content_in, group_count, flip_count, taxa_in, columns_from, raised_from, lowered_from, flips_start}
 use Rattle.answer.specs.Tests.{in_file, tests}
@@ -20,6 +18,7 @@ use Rattle.answer.proofs.Kept.{HeadKept}
 use Rattle.answer.proofs.Walks.{head_met, groups_move, flips_move}
 use Rattle.answer.proofs.Stages as stages
 use Rattle.answer.proofs.Stages.{Staged, staged}
+use Rattle.std.specs.Prelude.{Ok, Err}
 
 module _ (file : List ℕ) where
   abbrev pub head_of : Passed
@@ -36,17 +35,17 @@ module _ (file : List ℕ) where
 
   -- ---- where each stage leads
 
-  pub head_leads : {first : Cursor} → At first ≡ head_of
+  pub head_leads : {first : Cursor} → Ok first ≡ head_of
       → HeadKept (number_at 2 file 4) (number_at 2 file 6) (group_count file) (flip_count file) (flip_count file) × (first.at ≡ 16) × (16 ≤ length file)
   head_leads e = let (k, h) = head_met file _ _ _ _ _ e in (k, h.moves, h.ends)
 
-  pub groups_lead : {first flips : Cursor} → At first ≡ head_of → At flips ≡ groups_of first → (flips.at ≡ flips_start (group_count file)) × (flips.at ≤ length file)
+  pub groups_lead : {first flips : Cursor} → Ok first ≡ head_of → Ok flips ≡ groups_of first → (flips.at ≡ flips_start (group_count file)) × (flips.at ≤ length file)
   groups_lead {first} {flips} h g =
       let (k, at, long) = head_leads h in
       let (moved, fits) = groups_move file (number_at 2 file 4) (group_count file) (taxa_in file (group_count file)) first g (omega arith) in
       (omega arith, fits)
 
-  pub flips_lead : {flips end : Cursor} → At end ≡ flips_of flips → flips.at ≤ length file → (end.at ≡ flips.at + 22 * flip_count file) × (end.at ≤ length file)
+  pub flips_lead : {flips end : Cursor} → Ok end ≡ flips_of flips → flips.at ≤ length file → (end.at ≡ flips.at + 22 * flip_count file) × (end.at ≤ length file)
   flips_lead {flips} f l =
       let at = flips_start (group_count file) in
       let k = flip_count file in
@@ -54,11 +53,11 @@ module _ (file : List ℕ) where
 
   -- ---- the whole file
 
-  pub stops : {why : Refusal} → Refused why ≡ tests (in_file file) (content_in file) (flip_count file) → Refused why ≡ file_tests file
+  pub stops : {why : Refusal} → Err why ≡ tests (in_file file) (content_in file) (flip_count file) → Err why ≡ file_tests file
   unfolding file_tests
   stops e = rw (← e)
 
-  pub ends : {last : Cursor} → At last ≡ tests (in_file file) (content_in file) (flip_count file) → nothing_after file last ≡ file_tests file
+  pub ends : {last : Cursor} → Ok last ≡ tests (in_file file) (content_in file) (flip_count file) → nothing_after file last ≡ file_tests file
   unfolding file_tests
   ends e = rw (← e)
 
@@ -67,7 +66,7 @@ module _ (file : List ℕ) where
     pub stages : Staged (in_file file) (content_in file) (flip_count file) last
     pub all_read : length file ≤ last.at
 
-  pub read_through : {next : Cursor} → At next ≡ file_tests file → Read
+  pub read_through : {next : Cursor} → Ok next ≡ file_tests file → Read
   unfolding file_tests nothing_after
   read_through e =
       let (last, passed, after) = through (tests (in_file file) (content_in file) (flip_count file)) e in

@@ -15,7 +15,6 @@ use Rattle.taxa.specs.Groups.{NestedOrDisjoint, Before, sooner, larger}
 use Rattle.taxa.proofs.Groups.{pair_sym, before_trans, before_differ}
 use Rattle.taxa.proofs.Members.{within_⊆, ∩-disjoint, disjoint_∩, ⊆-refl, ⊆-≤, in∪}
 use Rattle.record.specs.declared.Cursor.{Cursor}
-use Rattle.record.specs.declared.Passed.TheVariants.{At}
 use Rattle.answer.specs.Content.{Content, length_of}
 use Rattle.answer.specs.Lawful.{Sized, LawfulHead, LawfulGroups, LawfulFlips, Lawful}
 use Rattle.answer.specs.Rules.{counted, follows, placed, compatible, compatible_all, group_fault, floor_of, entry_fault, sum_of, total_fault}
@@ -25,6 +24,7 @@ use Rattle.answer.proofs.Rows as rows
 use Rattle.answer.proofs.Walks.{walk_each, walk_passes, no_fault, through_judge, given_group}
 use Rattle.answer.proofs.Stages.{Staged, staged, ends_with}
 use Rattle.answer.proofs.Outcomes.{given_head_kept, given_entry_kept}
+use Rattle.std.specs.Prelude.{Ok}
 
 -- ---- one test, one rule
 
@@ -94,7 +94,7 @@ from_neighbours R trans n next i (suc j) l b =
 
 -- ---- tests that pass
 
-module _ {c : Content} (sized : Sized c) (listed : ℕ) {last : Cursor} (passed : At last ≡ tests as_given c listed) where
+module _ {c : Content} (sized : Sized c) (listed : ℕ) {last : Cursor} (passed : Ok last ≡ tests as_given c listed) where
   abbrev stages : Staged as_given c listed last
   stages = staged as_given c listed passed
 
@@ -217,30 +217,30 @@ module _ {c : Content} (lawful : Lawful c) where
       (sym (rows.some_flip c.m _ _ _ _ (flips.column_known j b) (floor_holds j b) ((some_in_∪ _ _).1 (flips.not_both_empty j b))) ∙ eq-eqb _ _ (disjoint_∩ (flips.apart j b)))
 
   module _ (listed : ℕ) (enough : c.flips ≤ listed) where
-    head_passes : At (record { at = 16 }) ≡ head_test as_given c.n c.m c.groups c.flips listed
+    head_passes : Ok (record { at = 16 }) ≡ head_test as_given c.n c.m c.groups c.flips listed
     unfolding head_test
     head_passes =
         no_fault 0 16 (sym (rows.head_kept c.n c.m c.groups c.flips listed (omega (arith, head.some_taxa)) head.few_taxa head.few_columns count_holds head.few_flips enough)) refl
 
-    groups_pass : At (record { at = 16 + 16 * c.groups }) ≡ walk (group_test as_given c.n c.taxa) c.groups (record { at = 16 })
+    groups_pass : Ok (record { at = 16 + 16 * c.groups }) ≡ walk (group_test as_given c.n c.taxa) c.groups (record { at = 16 })
     unfolding group_test
     groups_pass = walk_passes (group_test as_given c.n c.taxa) 16 c.groups (λ i b at. no_fault at (at + 4 + 12) (sym (group_holds i b)) (omega arith)) 16
 
-    flips_pass : At (record { at = 16 + 16 * c.groups + 22 * c.flips })
+    flips_pass : Ok (record { at = 16 + 16 * c.groups + 22 * c.flips })
         ≡ walk (flips_test as_given c.n c.m c.columns c.raised c.lowered) c.flips (record { at = 16 + 16 * c.groups })
     unfolding entry_test
     flips_pass =
         walk_passes (flips_test as_given c.n c.m c.columns c.raised c.lowered) 22 c.flips
         (λ j b at. no_fault at (at + 4 + 18) (sym (entry_holds j b)) (omega arith)) (16 + 16 * c.groups)
 
-    end_passes : At (record { at = length_of c }) ≡ end_test as_given c.total c.costs c.groups (record { at = 16 + 16 * c.groups + 22 * c.flips })
+    end_passes : Ok (record { at = length_of c }) ≡ end_test as_given c.total c.costs c.groups (record { at = 16 + 16 * c.groups + 22 * c.flips })
     unfolding end_test
     end_passes = no_fault _ _ (rw (eq-eqb _ _ lawful.total_is_sum)) (omega arith)
 
     -- What keeps the rules passes the tests, and they end where its file ends.
-    pub lawful_passes : At (record { at = length_of c }) ≡ tests as_given c listed
+    pub lawful_passes : Ok (record { at = length_of c }) ≡ tests as_given c listed
     lawful_passes = end_passes ∙ ends_with as_given c listed head_passes groups_pass flips_pass
 
 -- The tests pass exactly when the rules hold.
-pub passes_exactly : {c : Content} → Sized c → (At (record { at = length_of c }) ≡ tests as_given c c.flips) ↔ Lawful c
+pub passes_exactly : {c : Content} → Sized c → (Ok (record { at = length_of c }) ≡ tests as_given c c.flips) ↔ Lawful c
 passes_exactly {c} sized = (passes_lawful sized c.flips, λ lawful. lawful_passes lawful c.flips (omega arith))

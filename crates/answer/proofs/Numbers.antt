@@ -2,18 +2,19 @@
 use mathlib.Core.Path.{◌≡◌}
 use mathlib.Core.List.{List}
 use Prim.Native.Nat.{ℕ, ◌<◌}
-use Rattle.record.specs.declared.Refusal.{Refusal}
-use Rattle.record.specs.declared.Passed.{Passed}
-use Rattle.record.specs.declared.Passed.TheVariants.{Refused}
+use Rattle.record.specs.declared.refusal.Refusal.{Refusal}
 use Rattle.record.proofs.Places.{By}
 use Rattle.answer.specs.Content.{Content}
 use Rattle.answer.specs.Reading.{file_tests, read_tests}
 use Rattle.answer.specs.Writing.{write_tests}
 use Rattle.answer.proofs.Places.{largest, Few, answer_by, read_by, write_by}
+use Rattle.std.specs.Prelude.{Err}
+use Rattle.record.specs.Records.{Passed}
+use Rattle.record.specs.Refusals.{refusal_number}
 
 -- Passed, or refused by a number above 0.
 pub record Numbered (p : Passed) : Type 0 where
-  pub above : {why : Refusal} → Refused why ≡ p → 0 < why.number
+  pub above : {why : Refusal} → Err why ≡ p → 0 < (refusal_number why.reason)
 
 numbered : (p : Passed) → By Few largest p → Numbered p
 numbered p b = record { above = λ e. (rw (← e) at b).1.0 }

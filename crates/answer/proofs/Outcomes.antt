@@ -10,12 +10,10 @@ use Rattle.record.specs.Bytes.{number_at, over}
 use Rattle.record.specs.Records.{refused}
 use Rattle.record.proofs.Over.{length_over}
 use Rattle.record.specs.declared.Cursor.{Cursor}
-use Rattle.record.specs.declared.Refusal.{Refusal}
-use Rattle.record.specs.declared.Passed.TheVariants.{At, Refused}
+use Rattle.record.specs.declared.refusal.Refusal.{Refusal}
 use Rattle.answer.specs.declared.Reading.{Reading}
 use Rattle.answer.specs.declared.Verdict.TheVariants as verdict
 use Rattle.answer.specs.declared.Answer.{Answer}
-use Rattle.answer.specs.declared.Written.TheVariants as written
 use Rattle.answer.specs.Content.{Content, content_in, content_of, answer_of, group_count, flip_count, flips_start, taxa_in, file_of, length_of}
 use Rattle.answer.specs.Rules.{floor_of}
 use Rattle.answer.specs.Tests.{judge, as_given, flips_test, tests}
@@ -26,6 +24,8 @@ use Rattle.answer.proofs.Kept.{HeadKept, EntryKept, entry_keeps}
 use Rattle.answer.proofs.Walks.{length_taxa, walk_each, given_head, given_entry}
 use Rattle.answer.proofs.Stages.{staged}
 use Rattle.answer.proofs.Files.{head_leads, groups_lead, flips_lead, read_through}
+use Rattle.std.specs.Prelude.{Ok, Err}
+use Rattle.record.specs.declared.refusal.Reason.TheVariants as reason
 
 module _ (file columns raised lowered : List ℕ) where
   abbrev room : ℕ
@@ -34,20 +34,20 @@ module _ (file columns raised lowered : List ℕ) where
   abbrev refused_by : Refusal → Reading
   refused_by why = record { verdict = verdict.Refused why; answer = answer_of empty }
 
-  refuses : {why : Refusal} → Refused why ≡ read_tests file room → Reads file columns raised lowered (refused_by why) columns raised lowered
+  refuses : {why : Refusal} → Err why ≡ read_tests file room → Reads file columns raised lowered (refused_by why) columns raised lowered
   unfolding reading
   refuses e = record { answers = rw (← e); numbers = rw (← e); columns_after = refl; raised_after = refl; lowered_after = refl }
 
-  pub file_refused : {why : Refusal} {r : Reading} → r ≡ refused_by why → Refused why ≡ file_tests file → Reads file columns raised lowered r columns raised lowered
+  pub file_refused : {why : Refusal} {r : Reading} → r ≡ refused_by why → Err why ≡ file_tests file → Reads file columns raised lowered r columns raised lowered
   unfolding read_tests
   file_refused s e = rw s (refuses (rw (← e)))
 
-  pub no_room : {here : Cursor} {r : Reading} → r ≡ refused_by (refused 10 0) → At here ≡ file_tests file → room < flip_count file → Reads file columns raised lowered r columns raised lowered
+  pub no_room : {here : Cursor} {r : Reading} → r ≡ refused_by (refused reason.Room 0) → Ok here ≡ file_tests file → room < flip_count file → Reads file columns raised lowered r columns raised lowered
   unfolding read_tests judge
   no_room s e l = rw s (refuses (rw (← e, lt-ltb _ _ l)))
 
   pub taken : {here : Cursor} {r : Reading} {columns' raised' lowered' : List ℕ} → r ≡ record { verdict = verdict.Taken; answer = answer_of (content_in file) }
-      → At here ≡ file_tests file → flip_count file ≤ room
+      → Ok here ≡ file_tests file → flip_count file ≤ room
       → columns' ≡ over (content_in file).columns 0 columns → raised' ≡ over (content_in file).raised 0 raised → lowered' ≡ over (content_in file).lowered 0 lowered
       → Reads file columns raised lowered r columns' raised' lowered'
   unfolding reading read_tests judge
@@ -60,7 +60,7 @@ pub record Laid (file : List ℕ) : Type 0 where
   pub flips_at : flips_start (group_count file) ≤ length file
   pub end_at : flips_start (group_count file) + 22 * flip_count file ≤ length file
 
-pub laid : (file : List ℕ) {here : Cursor} → At here ≡ file_tests file → Laid file
+pub laid : (file : List ℕ) {here : Cursor} → Ok here ≡ file_tests file → Laid file
 laid file e =
     let r = (read_through file e).stages in
     let (kept, at, long) = head_leads file r.head_passed in
@@ -83,16 +83,16 @@ module _ (file : List ℕ) {a : Answer} (value : a ≡ answer_of (content_in fil
 -- ---- writing
 
 module _ (c : Content) (entries : ℕ) (out : List ℕ) where
-  pub given_refused : {why : Refusal} → Refused why ≡ tests as_given c entries → Writes c entries out (written.Refused why) out
+  pub given_refused : {why : Refusal} → Err why ≡ tests as_given c entries → Writes c entries out (Err why) out
   unfolding writing write_tests
   given_refused e = record { answers = rw (← e); numbers = rw (← e); out_after = refl }
 
-  module _ {last : Cursor} (passed : At last ≡ tests as_given c entries) where
-    pub no_output_room : length out < length_of c → Writes c entries out (written.Refused (refused 10 0)) out
+  module _ {last : Cursor} (passed : Ok last ≡ tests as_given c entries) where
+    pub no_output_room : length out < length_of c → Writes c entries out (Err (refused reason.Room 0)) out
     unfolding writing write_tests judge
     no_output_room l = record { answers = rw (← passed, lt-ltb _ _ l); numbers = rw (← passed, lt-ltb _ _ l); out_after = refl }
 
-    pub written_out : length_of c ≤ length out → {out' : List ℕ} → out' ≡ over (file_of c) 0 out → Writes c entries out (written.Length (length_of c)) out'
+    pub written_out : length_of c ≤ length out → {out' : List ℕ} → out' ≡ over (file_of c) 0 out → Writes c entries out (Ok (length_of c)) out'
     unfolding writing write_tests judge
     written_out l e = record { answers = rw (← passed, le-ltb _ _ l); numbers = rw (← passed, le-ltb _ _ l); out_after = e }
 
@@ -107,7 +107,7 @@ module _ (c : Content) (entries : ℕ) (out : List ℕ) where
         entry_keeps _ _ _ _ _ _ (given_entry _ _ _ _ _ _ it.here it.passed).0
 
 -- Entry j of a list as given, where its cut passes.
-pub column_fits : (a : Answer) (columns raised lowered : List ℕ) (entries : ℕ) {last : Cursor} → At last ≡ tests as_given (content_of a columns raised lowered) entries
+pub column_fits : (a : Answer) (columns raised lowered : List ℕ) (entries : ℕ) {last : Cursor} → Ok last ≡ tests as_given (content_of a columns raised lowered) entries
     → (j : ℕ) → j < a.flips → get_or columns j 0 < 65536
 column_fits a columns raised lowered entries e j l =
     let c = content_of a columns raised lowered in

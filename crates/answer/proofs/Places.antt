@@ -10,16 +10,13 @@ use lib.ListN.{get_or}
 use borrow.Author.Tests.{ne_eqb}
 use Rattle.taxa.specs.Sets.{within, count, all}
 use Rattle.record.specs.Records as records
-use Rattle.record.specs.Records.{payload, left, onward, nothing_after}
+use Rattle.record.specs.Records.{payload, left, onward, nothing_after, Passed}
 use Rattle.record.specs.declared.Cursor.{Cursor}
-use Rattle.record.specs.declared.Refusal.{Refusal}
-use Rattle.record.specs.declared.Passed.{Passed}
-use Rattle.record.specs.declared.Passed.TheVariants.{At, Refused}
+use Rattle.record.specs.declared.refusal.Refusal.{Refusal}
 use Rattle.record.proofs.Passing.{through}
 use Rattle.record.proofs.Steps.{either_way}
 use Rattle.record.proofs.Places.{By, by_record}
 use Rattle.answer.specs.declared.Verdict.TheVariants as verdict
-use Rattle.answer.specs.declared.Written.TheVariants as written
 use Rattle.answer.specs.Content.{Content, content_in, length_of, flip_count}
 use Rattle.answer.specs.Rules.{head_fault, counted, group_fault, placed, compatible_all, entry_fault, kept, sum_of}
 use Rattle.answer.specs.Tests.{judge, Meet, in_file, as_given, walk, start, head_test, group_test, entry_test, end_test, tests}
@@ -30,6 +27,8 @@ use Rattle.answer.proofs.Walks.{head_met, given_head}
 use Rattle.answer.proofs.Stages.{head_of, groups_of, flips_of}
 use Rattle.answer.proofs.Outcomes.{given_head_kept}
 use Rattle.answer.proofs.RoundTrip.{wrote}
+use Rattle.std.specs.Prelude.{Ok, Err}
+use Rattle.record.specs.Refusals.{refusal_number}
 
 -- The largest answer file has 20 + 16 · 63 + 22 · 256 bytes.
 abbrev pub largest : ℕ
@@ -72,7 +71,7 @@ judge_by far (suc fault) place next few l near = rw (ne_eqb (suc fault) 0 (λ e.
 -- However a record is met, judging it at its place ends by its own end, and a head that passes keeps its rules.
 record Near (meet : Meet) : Type 0 where
   by : (kind far fault : ℕ) (here : Cursor) → Fault fault → here.at + (4 + payload kind) ≤ far → By Few far (meet kind here (judge fault here.at))
-  keeps : (n m groups flips listed : ℕ) {next : Cursor} → At next ≡ head_test meet n m groups flips listed → HeadKept n m groups flips listed
+  keeps : (n m groups flips listed : ℕ) {next : Cursor} → Ok next ≡ head_test meet n m groups flips listed → HeadKept n m groups flips listed
 
 file_near : (file : List ℕ) → Near (in_file file)
 file_near file =
@@ -91,10 +90,10 @@ given_near =
     }
 
 -- A reading that ends by `near`, and then another.
-by_then : (near far : ℕ) → near ≤ far → (p : Passed) (go : Cursor → Passed) → By Few near p → ((c : Cursor) → At c ≡ p → c.at ≤ near → By Few far (go c))
+by_then : (near far : ℕ) → near ≤ far → (p : Passed) (go : Cursor → Passed) → By Few near p → ((c : Cursor) → Ok c ≡ p → c.at ≤ near → By Few far (go c))
     → By Few far (onward p go)
-by_then near far l (At c) go b h = h c refl b
-by_then near far l (Refused why) go b h = (omega arith, b.1)
+by_then near far l (Ok c) go b h = h c refl b
+by_then near far l (Err why) go b h = (omega arith, b.1)
 
 -- A walk over records of w bytes each ends by w for each.
 walk_by : (one : ℕ → Cursor → Passed) (w : ℕ) → ((i far : ℕ) (here : Cursor) → here.at + w ≤ far → By Few far (one i here)) → (k : ℕ) (from : Cursor)
@@ -127,9 +126,9 @@ answer_by file =
 -- The last test, of a list or an output that may be too short.
 room_by : (short : Bool) (p : Passed) → By Few largest p → By Few largest (onward p (judge (cond short 10 0) 0))
 unfolding judge
-room_by true (At c) b = (lit≤ tt, (lit< tt, lit≤ tt))
-room_by false (At c) b = b
-room_by short (Refused why) b = b
+room_by true (Ok c) b = (lit≤ tt, (lit< tt, lit≤ tt))
+room_by false (Ok c) b = b
+room_by short (Err why) b = b
 
 pub read_by : (file : List ℕ) (room : ℕ) → By Few largest (read_tests file room)
 unfolding read_tests
@@ -140,23 +139,23 @@ unfolding write_tests
 write_by c listed room = room_by (ltb room (length_of c)) (tests as_given c listed) (tests_by given_near c listed)
 
 -- A refusal that comes back is one of the tests'.
-read_refused : {why : Refusal} (c : Content) (p : Passed) → verdict.Refused why ≡ (answered c p).verdict → Refused why ≡ p
-read_refused c (At here) e = cc
-read_refused c (Refused other) e = cc
+read_refused : {why : Refusal} (c : Content) (p : Passed) → verdict.Refused why ≡ (answered c p).verdict → Err why ≡ p
+read_refused c (Ok here) e = cc
+read_refused c (Err other) e = cc
 
-write_refused : {why : Refusal} (c : Content) (p : Passed) → written.Refused why ≡ ended (length_of c) p → Refused why ≡ p
-write_refused c (At here) e = cc
-write_refused c (Refused other) e = cc
+write_refused : {why : Refusal} (c : Content) (p : Passed) → Err why ≡ ended (length_of c) p → Err why ≡ p
+write_refused c (Ok here) e = cc
+write_refused c (Err other) e = cc
 
-pub reading_small : (file : List ℕ) (room : ℕ) {why : Refusal} → verdict.Refused why ≡ (reading file room).verdict → (why.place ≤ largest) × (why.number ≤ 15)
+pub reading_small : (file : List ℕ) (room : ℕ) {why : Refusal} → verdict.Refused why ≡ (reading file room).verdict → (why.place ≤ largest) × ((refusal_number why.reason) ≤ 15)
 unfolding reading
 reading_small file room e = let b = rw (← read_refused (content_in file) (read_tests file room) e) at (read_by file room) in (b.0, b.1.1)
 
-pub writing_small : (c : Content) (listed room : ℕ) {why : Refusal} → written.Refused why ≡ writing c listed room → (why.place ≤ largest) × (why.number ≤ 15)
+pub writing_small : (c : Content) (listed room : ℕ) {why : Refusal} → Err why ≡ writing c listed room → (why.place ≤ largest) × ((refusal_number why.reason) ≤ 15)
 unfolding writing
 writing_small c listed room e = let b = rw (← write_refused c (write_tests c listed room) e) at (write_by c listed room) in (b.0, b.1.1)
 
-pub writing_size : (c : Content) (listed room : ℕ) {size : ℕ} → written.Length size ≡ writing c listed room → size ≤ largest
+pub writing_size : (c : Content) (listed room : ℕ) {size : ℕ} → Ok size ≡ writing c listed room → size ≤ largest
 unfolding writing write_tests
 writing_size c listed room e =
     let (here, passed, is) = wrote (write_tests c listed room) e in

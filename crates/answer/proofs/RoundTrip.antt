@@ -10,15 +10,11 @@ use lib.ListN.{length, take, replicate}
 use borrow.Author.Tests.{le-ltb, ltb-false}
 use Rattle.record.specs.Bytes.{over, File}
 use Rattle.record.specs.declared.Cursor.{Cursor}
-use Rattle.record.specs.declared.Passed.{Passed}
-use Rattle.record.specs.declared.Passed.TheVariants.{At, Refused}
 use Rattle.record.proofs.Over.{length_over}
 use Rattle.record.proofs.Passing.{through}
 use Rattle.answer.specs.declared.Answer.{Answer}
 use Rattle.answer.specs.declared.Reading.{Reading}
 use Rattle.answer.specs.declared.Verdict.TheVariants as verdict
-use Rattle.answer.specs.declared.Written.{Written}
-use Rattle.answer.specs.declared.Written.TheVariants as written
 use Rattle.answer.specs.Content.{Content, content_in, content_of, answer_of, file_of, length_of, flip_count}
 use Rattle.answer.specs.Lawful.{Lawful}
 use Rattle.answer.specs.Tests.{judge, as_given, tests}
@@ -33,6 +29,9 @@ use Rattle.answer.proofs.Meaning.{lawful_passes}
 use Rattle.answer.proofs.Taken.{taken_is_file}
 use Rattle.answer.proofs.Encoding.{file_taken, file_holds}
 use Rattle.answer.proofs.Accepted.{given_lawful, taken_lawful}
+use Rattle.std.specs.Prelude.{Result, Ok, Err}
+use Rattle.record.specs.declared.refusal.Refusal.{Refusal}
+use Rattle.record.specs.Records.{Passed}
 
 -- ---- the file of a content
 
@@ -46,12 +45,12 @@ reads_back {c} lawful room l =
 -- ---- reading what was written
 
 -- Where a length came back, all tests were passed.
-pub wrote : {size n : ℕ} (p : Passed) → written.Length size ≡ ended n p → (here : Cursor) × (At here ≡ p) × (size ≡ n)
-wrote (At here) e = (here, refl, cc)
-wrote (Refused why) e = absurd (let z : ◌≡◌ {A = ℕ} 0 1 = cc in omega arith)
+pub wrote : {size n : ℕ} (p : Passed) → Ok size ≡ ended n p → (here : Cursor) × (Ok here ≡ p) × (size ≡ n)
+wrote (Ok here) e = (here, refl, cc)
+wrote (Err why) e = absurd (let z : ◌≡◌ {A = ℕ} 0 1 = cc in omega arith)
 
 pub reading_what_was_written : (a : Answer) (columns raised lowered : List ℕ) → length a.taxa ≡ 63 → length a.costs ≡ 63 → a.total < 2 ^ 32
-    → {out out' : List ℕ} {size : ℕ} → Writes (content_of a columns raised lowered) (listed columns raised lowered) out (written.Length size) out'
+    → {out out' : List ℕ} {size : ℕ} → Writes (content_of a columns raised lowered) (listed columns raised lowered) out (Ok size) out'
     → (take size out' ≡ file_of (content_of a columns raised lowered))
     × (content_in (take size out') ≡ content_of a columns raised lowered)
     × ((room : ℕ) → a.flips ≤ room → reading (take size out') room ≡ record { verdict = verdict.Taken; answer = answer_of (content_of a columns raised lowered) })
@@ -67,9 +66,9 @@ reading_what_was_written a columns raised lowered t s fits {out} {out'} {size} w
 -- ---- writing what was read
 
 -- A reading that is taken passed its tests.
-pub took : (c : Content) (p : Passed) → (answered c p).verdict ≡ verdict.Taken → (here : Cursor) × (At here ≡ p)
-took c (At here) e = (here, refl)
-took c (Refused why) e = absurd (let z : ◌≡◌ {A = ℕ} 0 1 = cc in omega arith)
+pub took : (c : Content) (p : Passed) → (answered c p).verdict ≡ verdict.Taken → (here : Cursor) × (Ok here ≡ p)
+took c (Ok here) e = (here, refl)
+took c (Err why) e = absurd (let z : ◌≡◌ {A = ℕ} 0 1 = cc in omega arith)
 
 -- The value and the list of a content hold that content.
 content_back : {c : Content} → Lawful c → (columns raised lowered : List ℕ) → content_of (answer_of c) (over c.columns 0 columns) (over c.raised 0 raised) (over c.lowered 0 lowered) ≡ c
@@ -90,7 +89,7 @@ content_back {c} lawful columns raised lowered =
 -- What a reading that took a file left.
 record Left (file columns raised lowered : List ℕ) (r : Reading) (columns' raised' lowered' : List ℕ) : Type 0 where
   next : Cursor
-  passed : At next ≡ file_tests file
+  passed : Ok next ≡ file_tests file
   roomy : flip_count file ≤ listed columns raised lowered
   answer_is : r.answer ≡ answer_of (content_in file)
   columns_are : columns' ≡ over (content_in file).columns 0 columns
@@ -137,15 +136,15 @@ module _ {file columns raised lowered : List ℕ} {r : Reading} {columns' raised
       omega arith
 
   -- "Writing what was read gives back the file."
-  pub writing_what_was_read : {out out' : List ℕ} {w : Written} → length file ≤ length out → Writes (content_of r.answer columns' raised' lowered') (listed columns' raised' lowered') out w out'
-      → (w ≡ written.Length (length file)) × (out' ≡ over file 0 out)
+  pub writing_what_was_read : {out out' : List ℕ} {w : Result ℕ Refusal} → length file ≤ length out → Writes (content_of r.answer columns' raised' lowered') (listed columns' raised' lowered') out w out'
+      → (w ≡ Ok (length file)) × (out' ≡ over file 0 out)
   writing_what_was_read {out} {out'} {w} room writes =
       let c = content_in file in
       let entries = listed columns' raised' lowered' in
       let is-file = taken_is_file f read.passed in
       let size : length file ≡ length_of c = ap length is-file ∙ length_file c in
       let done = written_out c entries out (lawful_passes lawful entries enough) (omega arith) {out' = over (file_of c) 0 out} refl in
-      let w-is : w ≡ written.Length (length_of c) = writes.answers ∙ ap (λ (x : Content). writing x entries (length out)) read_content ∙ sym done.answers in (
-        w-is ∙ ap written.Length (sym size),
-        writes.out_after ∙ ap (λ (x : Content). put w (file_of x) out) read_content ∙ ap (λ (x : Written). put x (file_of c) out) w-is ∙ ap (λ (x : List ℕ). over x 0 out) (sym is-file),
+      let w-is : w ≡ Ok (length_of c) = writes.answers ∙ ap (λ (x : Content). writing x entries (length out)) read_content ∙ sym done.answers in (
+        w-is ∙ ap Ok (sym size),
+        writes.out_after ∙ ap (λ (x : Content). put w (file_of x) out) read_content ∙ ap (λ (x : Result ℕ Refusal). put x (file_of c) out) w-is ∙ ap (λ (x : List ℕ). over x 0 out) (sym is-file),
       )

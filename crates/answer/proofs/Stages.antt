@@ -2,12 +2,12 @@
 use mathlib.Core.Path.{◌≡◌}
 use Prim.Native.Nat.{ℕ}
 use Rattle.record.specs.declared.Cursor.{Cursor}
-use Rattle.record.specs.declared.Refusal.{Refusal}
-use Rattle.record.specs.declared.Passed.{Passed}
-use Rattle.record.specs.declared.Passed.TheVariants.{At, Refused}
+use Rattle.record.specs.declared.refusal.Refusal.{Refusal}
 use Rattle.record.proofs.Passing.{through}
 use Rattle.answer.specs.Content.{Content}
 use Rattle.answer.specs.Tests.{Meet, walk, head_test, group_test, flips_test, end_test, tests}
+use Rattle.std.specs.Prelude.{Ok, Err}
+use Rattle.record.specs.Records.{Passed}
 
 module _ (meet : Meet) (c : Content) (listed : ℕ) where
   abbrev pub head_of : Passed
@@ -23,20 +23,20 @@ module _ (meet : Meet) (c : Content) (listed : ℕ) where
   end_of = end_test meet c.total c.costs c.groups
 
   module _ {why : Refusal} where
-    pub head_stops : Refused why ≡ head_of → Refused why ≡ tests meet c listed
+    pub head_stops : Err why ≡ head_of → Err why ≡ tests meet c listed
     unfolding tests
     head_stops h = rw (← h)
 
-    module _ {first : Cursor} (h : At first ≡ head_of) where
-      pub groups_stop : Refused why ≡ groups_of first → Refused why ≡ tests meet c listed
+    module _ {first : Cursor} (h : Ok first ≡ head_of) where
+      pub groups_stop : Err why ≡ groups_of first → Err why ≡ tests meet c listed
       unfolding tests
       groups_stop g = rw (← h, ← g)
 
-      pub flips_stop : {flips : Cursor} → At flips ≡ groups_of first → Refused why ≡ flips_of flips → Refused why ≡ tests meet c listed
+      pub flips_stop : {flips : Cursor} → Ok flips ≡ groups_of first → Err why ≡ flips_of flips → Err why ≡ tests meet c listed
       unfolding tests
       flips_stop g f = rw (← h, ← g, ← f)
 
-  pub ends_with : {first flips end : Cursor} → At first ≡ head_of → At flips ≡ groups_of first → At end ≡ flips_of flips → end_of end ≡ tests meet c listed
+  pub ends_with : {first flips end : Cursor} → Ok first ≡ head_of → Ok flips ≡ groups_of first → Ok end ≡ flips_of flips → end_of end ≡ tests meet c listed
   unfolding tests
   ends_with h g f = rw (← h, ← g, ← f)
 
@@ -45,12 +45,12 @@ module _ (meet : Meet) (c : Content) (listed : ℕ) where
     pub first : Cursor
     pub flips : Cursor
     pub end : Cursor
-    pub head_passed : At first ≡ head_of
-    pub groups_passed : At flips ≡ groups_of first
-    pub flips_passed : At end ≡ flips_of flips
-    pub end_passed_lem : At last ≡ end_of end
+    pub head_passed : Ok first ≡ head_of
+    pub groups_passed : Ok flips ≡ groups_of first
+    pub flips_passed : Ok end ≡ flips_of flips
+    pub end_passed_lem : Ok last ≡ end_of end
 
-  pub staged : {last : Cursor} → At last ≡ tests meet c listed → Staged last
+  pub staged : {last : Cursor} → Ok last ≡ tests meet c listed → Staged last
   unfolding tests
   staged e =
       let (first, h, e₁) = through head_of e in

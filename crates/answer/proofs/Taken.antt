@@ -9,7 +9,6 @@ use Rattle.record.specs.Bytes.{number_at, File}
 use Rattle.record.specs.Records as records
 use Rattle.record.specs.Records.{record_of}
 use Rattle.record.specs.declared.Cursor.{Cursor}
-use Rattle.record.specs.declared.Passed.TheVariants.{At}
 use Rattle.record.proofs.Numbers.{read_then}
 use Rattle.record.proofs.Steps.{Held, record_bytes_lem}
 use Rattle.answer.specs.Content.{run, head_bytes, group_bytes, flips_bytes, end_bytes, group_record, flips_record, file_of, length_of, content_in, group_count, flip_count, taxa_in, costs_in, columns_from, raised_from, lowered_from, flips_start}
@@ -19,6 +18,7 @@ use Rattle.answer.specs.Reading.{file_tests}
 use Rattle.answer.proofs.Runs.{entry, run_stands}
 use Rattle.answer.proofs.Walks.{met, head_met, group_met, entry_met, walk_each, groups_move, flips_move, taxa_there}
 use Rattle.answer.proofs.Files.{groups_lead, flips_lead, read_through}
+use Rattle.std.specs.Prelude.{Ok}
 
 module _ {file : List ℕ} (f : File file) where
   -- ---- the records that were passed stand in the file
@@ -66,7 +66,7 @@ module _ {file : List ℕ} (f : File file) where
   abbrev k : ℕ
   k = flip_count file
 
-  groups_stand : (n : ℕ) (first : Cursor) {flips : Cursor} → first.at ≡ 16 → 16 ≤ length file → At flips ≡ walk (group_test (in_file file) n (taxa_in file g)) g first
+  groups_stand : (n : ℕ) (first : Cursor) {flips : Cursor} → first.at ≡ 16 → 16 ≤ length file → Ok flips ≡ walk (group_test (in_file file) n (taxa_in file g)) g first
       → drop 16 file ≡ run (group_record (taxa_in file g) (costs_in file g)) g ++ drop (flips_start g) file
   unfolding costs_in
   groups_stand n first at₁ long passed =
@@ -80,7 +80,7 @@ module _ {file : List ℕ} (f : File file) where
       rw (taxa_there file g i l, entry (λ i. number_at 4 file (28 + 16 * i)) g i l, ← t, ← c) stands)
 
   flips_all_stand : (n m : ℕ) (from : Cursor) {end : Cursor} (at : ℕ) → from.at ≡ at → at ≤ length file
-      → At end ≡ walk (flips_test (in_file file) n m (columns_from file at k) (raised_from file at k) (lowered_from file at k)) k from
+      → Ok end ≡ walk (flips_test (in_file file) n m (columns_from file at k) (raised_from file at k) (lowered_from file at k)) k from
       → drop at file ≡ run (flips_record (columns_from file at k) (raised_from file at k) (lowered_from file at k)) k ++ drop (at + 22 * k) file
   unfolding columns_from raised_from lowered_from
   flips_all_stand n m from at at₁ long passed =
@@ -97,7 +97,7 @@ module _ {file : List ℕ} (f : File file) where
       stands)
 
   -- The end record, and nothing after it.
-  end_all : (here : Cursor) {last : Cursor} → At last ≡ end_test (in_file file) (number_at 4 file 12) (costs_in file g) g here → length file ≤ last.at
+  end_all : (here : Cursor) {last : Cursor} → Ok last ≡ end_test (in_file file) (number_at 4 file 12) (costs_in file g) g here → length file ≤ last.at
       → (drop here.at file ≡ end_bytes) × (length file ≡ here.at + 4)
   unfolding end_test
   end_all here e l =
@@ -107,7 +107,7 @@ module _ {file : List ℕ} (f : File file) where
   -- ---- the whole file
 
   -- "An accepted file is the encoding of its content."
-  pub taken_is_file : {next : Cursor} → At next ≡ file_tests file → file ≡ file_of (content_in file)
+  pub taken_is_file : {next : Cursor} → Ok next ≡ file_tests file → file ≡ file_of (content_in file)
   unfolding file_of
   taken_is_file e =
       let r = read_through file e in
@@ -126,7 +126,7 @@ module _ {file : List ℕ} (f : File file) where
       let flips_part : List ℕ = run (flips_record c.columns c.raised c.lowered) c.flips in
       head ∙ ap (◌++◌ head-part) (groups ∙ ap (◌++◌ groups-part) (flips ∙ ap (◌++◌ flips_part) (rw end_at at ends))) ∙ simp append_assoc
 
-  pub taken_length : {next : Cursor} → At next ≡ file_tests file → length file ≡ length_of (content_in file)
+  pub taken_length : {next : Cursor} → Ok next ≡ file_tests file → length file ≡ length_of (content_in file)
   taken_length e =
       let r = read_through file e in
       let s = r.stages in
@@ -136,6 +136,6 @@ module _ {file : List ℕ} (f : File file) where
       omega arith
 
 -- No two accepted files carry the same content.
-pub same_content_same_file : {file file' : List ℕ} {next next' : Cursor} → File file → File file' → At next ≡ file_tests file → At next' ≡ file_tests file'
+pub same_content_same_file : {file file' : List ℕ} {next next' : Cursor} → File file → File file' → Ok next ≡ file_tests file → Ok next' ≡ file_tests file'
     → content_in file ≡ content_in file' → file ≡ file'
 same_content_same_file f f' t t' e = taken_is_file f t ∙ ap file_of e ∙ sym (taken_is_file f' t')

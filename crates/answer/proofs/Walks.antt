@@ -12,11 +12,9 @@ use borrow.Author.Tests.{eqb-true, eq-eqb}
 use Rattle.taxa.proofs.Sums.{sum_≡}
 use Rattle.record.specs.Bytes.{number_at, over}
 use Rattle.record.specs.Records as records
-use Rattle.record.specs.Records.{record_of, step, onward}
+use Rattle.record.specs.Records.{record_of, step, onward, Passed}
 use Rattle.record.specs.declared.Cursor.{Cursor}
-use Rattle.record.specs.declared.Refusal.{Refusal}
-use Rattle.record.specs.declared.Passed.{Passed}
-use Rattle.record.specs.declared.Passed.TheVariants.{At, Refused}
+use Rattle.record.specs.declared.refusal.Refusal.{Refusal}
 use Rattle.record.proofs.Steps.{Held, held}
 use Rattle.record.proofs.Passing.{where_holds, through_step, through}
 use Rattle.answer.specs.Content.{padded, numbers_of, taxa_in, costs_in, columns_from, raised_from, lowered_from}
@@ -25,22 +23,23 @@ use Rattle.answer.specs.Tests.{judge, in_file, as_given, walk, head_test, group_
 use Rattle.answer.proofs.Runs.{entry, length_entries, at_front, store_next}
 use Rattle.answer.proofs.Rows.{group_same}
 use Rattle.answer.proofs.Kept.{HeadKept, head_keeps}
+use Rattle.std.specs.Prelude.{Ok, Err}
 
 module _ (one : ℕ → Cursor → Passed) (from : Cursor) where
-  pub walk_none : At from ≡ walk one 0 from
+  pub walk_none : Ok from ≡ walk one 0 from
   unfolding walk
   walk_none = refl
 
-  pub walk_more : (i : ℕ) {here : Cursor} → At here ≡ walk one i from → one i here ≡ walk one (i + 1) from
+  pub walk_more : (i : ℕ) {here : Cursor} → Ok here ≡ walk one i from → one i here ≡ walk one (i + 1) from
   unfolding walk
   walk_more i e = rw (add-one, ← e)
 
-  pub walk_stops : (k i : ℕ) {here : Cursor} {why : Refusal} → i < k → At here ≡ walk one i from → Refused why ≡ one i here → Refused why ≡ walk one k from
+  pub walk_stops : (k i : ℕ) {here : Cursor} {why : Refusal} → i < k → Ok here ≡ walk one i from → Err why ≡ one i here → Err why ≡ walk one k from
   unfolding walk
   walk_stops zero i l e s = absurd (omega arith)
   walk_stops (suc k) i {here} {why} l e s =
       below_more
-      (λ i. (here : Cursor) → At here ≡ walk one i from → Refused why ≡ one i here → Refused why ≡ onward (walk one k from) (one k)) k
+      (λ i. (here : Cursor) → Ok here ≡ walk one i from → Err why ≡ one i here → Err why ≡ onward (walk one k from) (one k)) k
       (λ i l here e s. rw (← walk_stops k i l e s))
       (λ here e s. rw (← e) s)
       i (omega arith) here e s
@@ -49,10 +48,10 @@ module _ (one : ℕ → Cursor → Passed) (from : Cursor) where
 pub record Each (one : ℕ → Cursor → Passed) (from : Cursor) (i : ℕ) : Type 0 where
   pub here : Cursor
   pub next : Cursor
-  pub led : At here ≡ walk one i from
-  pub passed : At next ≡ one i here
+  pub led : Ok here ≡ walk one i from
+  pub passed : Ok next ≡ one i here
 
-pub walk_each : (one : ℕ → Cursor → Passed) (from : Cursor) (k : ℕ) {end : Cursor} → At end ≡ walk one k from → (i : ℕ) → i < k → Each one from i
+pub walk_each : (one : ℕ → Cursor → Passed) (from : Cursor) (k : ℕ) {end : Cursor} → Ok end ≡ walk one k from → (i : ℕ) → i < k → Each one from i
 unfolding walk
 walk_each one from zero e i l = absurd (omega arith)
 walk_each one from (suc k) {end} e i l =
@@ -61,16 +60,16 @@ walk_each one from (suc k) {end} e i l =
 
 -- A walk over records of one size w moves on by w each; what each record keeps, the walk keeps.
 module _ (one : ℕ → Cursor → Passed) where
-  pub walk_moves : (w : ℕ) → ((i : ℕ) (here next : Cursor) → At next ≡ one i here → next.at ≡ here.at + w)
-      → (k : ℕ) (from : Cursor) {end : Cursor} → At end ≡ walk one k from → end.at ≡ from.at + w * k
+  pub walk_moves : (w : ℕ) → ((i : ℕ) (here next : Cursor) → Ok next ≡ one i here → next.at ≡ here.at + w)
+      → (k : ℕ) (from : Cursor) {end : Cursor} → Ok end ≡ walk one k from → end.at ≡ from.at + w * k
   unfolding walk
   walk_moves w moves zero from {end} e = let same : end ≡ from = cc in rw same (omega arith)
   walk_moves w moves (suc k) from {end} e =
       let (c, before, last) = through (walk one k from) e in
       omega (arith, walk_moves w moves k from before, moves k c end last)
 
-  pub walk_within : (size : ℕ) → ((i : ℕ) (here next : Cursor) → At next ≡ one i here → next.at ≤ size)
-      → (k : ℕ) (from : Cursor) {end : Cursor} → At end ≡ walk one k from → from.at ≤ size → end.at ≤ size
+  pub walk_within : (size : ℕ) → ((i : ℕ) (here next : Cursor) → Ok next ≡ one i here → next.at ≤ size)
+      → (k : ℕ) (from : Cursor) {end : Cursor} → Ok end ≡ walk one k from → from.at ≤ size → end.at ≤ size
   unfolding walk
   walk_within size within zero from {end} e l = let same : end ≡ from = cc in rw same l
   walk_within size within (suc k) from {end} e l = let (c, before, last) = through (walk one k from) e in within k c end last
@@ -82,13 +81,13 @@ module _ (one : ℕ → Cursor → Passed) where
   walk_same other (suc k) from e = rw (walk_same other k from (λ i here l. e i here (omega arith))) (go (walk other k from))
     where
       go : (p : Passed) → onward p (one k) ≡ onward p (other k)
-      go (At c) = e k c (omega arith)
-      go (Refused why) = refl
+      go (Ok c) = e k c (omega arith)
+      go (Err why) = refl
 
 -- A walk carries over to another whose records pass where those of the first do.
-module _ (one other : ℕ → Cursor → Passed) (w : ℕ) (moves : (i : ℕ) (here next : Cursor) → At next ≡ other i here → next.at ≡ here.at + w) where
-  pub walk_carries : (k : ℕ) (from : Cursor) → ((i : ℕ) (here next : Cursor) → i < k → here.at ≡ from.at + w * i → At next ≡ other i here → At next ≡ one i here)
-      → {end : Cursor} → At end ≡ walk other k from → At end ≡ walk one k from
+module _ (one other : ℕ → Cursor → Passed) (w : ℕ) (moves : (i : ℕ) (here next : Cursor) → Ok next ≡ other i here → next.at ≡ here.at + w) where
+  pub walk_carries : (k : ℕ) (from : Cursor) → ((i : ℕ) (here next : Cursor) → i < k → here.at ≡ from.at + w * i → Ok next ≡ other i here → Ok next ≡ one i here)
+      → {end : Cursor} → Ok end ≡ walk other k from → Ok end ≡ walk one k from
   unfolding walk
   walk_carries zero from carries e = e
   walk_carries (suc k) from carries {end} e =
@@ -96,24 +95,24 @@ module _ (one other : ℕ → Cursor → Passed) (w : ℕ) (moves : (i : ℕ) (h
       rw (← walk_carries k from (λ i here next l. carries i here next (omega arith)) before) (carries k c end (omega arith) (walk_moves other w moves k from before) last)
 
 -- Where all records of one size pass, the walk passes.
-pub walk_passes : (one : ℕ → Cursor → Passed) (size k : ℕ) → ((i : ℕ) → i < k → (at : ℕ) → At (record { at = at + size }) ≡ one i (record { at = at }))
-    → (at : ℕ) → At (record { at = at + size * k }) ≡ walk one k (record { at = at })
+pub walk_passes : (one : ℕ → Cursor → Passed) (size k : ℕ) → ((i : ℕ) → i < k → (at : ℕ) → Ok (record { at = at + size }) ≡ one i (record { at = at }))
+    → (at : ℕ) → Ok (record { at = at + size * k }) ≡ walk one k (record { at = at })
 unfolding walk
-walk_passes one size zero h at = ap (λ (a : ℕ). At (record { at = a })) (omega arith)
+walk_passes one size zero h at = ap (λ (a : ℕ). Ok (record { at = a })) (omega arith)
 walk_passes one size (suc k) h at =
-    rw (← walk_passes one size k (λ i b. h i (omega arith)) at, ← h k (omega arith) (at + size * k)) (ap (λ (a : ℕ). At (record { at = a })) (omega (arith, mul-suc size k)))
+    rw (← walk_passes one size k (λ i b. h i (omega arith)) at, ← h k (omega arith) (at + size * k)) (ap (λ (a : ℕ). Ok (record { at = a })) (omega (arith, mul-suc size k)))
 
 -- A record with no fault passes.
-pub no_fault : {fault : ℕ} (place at : ℕ) {next : Cursor} → fault ≡ 0 → next.at ≡ at → At next ≡ judge fault place (record { at = at })
+pub no_fault : {fault : ℕ} (place at : ℕ) {next : Cursor} → fault ≡ 0 → next.at ≡ at → Ok next ≡ judge fault place (record { at = at })
 unfolding judge
-no_fault {fault} place at {next} none e = rw (eq-eqb fault 0 none) (λ i. At (record { at = e i }))
+no_fault {fault} place at {next} none e = rw (eq-eqb fault 0 none) (λ i. Ok (record { at = e i }))
 
-pub through_judge : (fault place : ℕ) (c : Cursor) {next : Cursor} → At next ≡ judge fault place c → (fault ≡ 0) × (c ≡ next)
+pub through_judge : (fault place : ℕ) (c : Cursor) {next : Cursor} → Ok next ≡ judge fault place c → (fault ≡ 0) × (c ≡ next)
 unfolding judge
 through_judge fault place c e = let (none, e') = where_holds (eqb fault 0) _ _ e in (eqb-true _ _ none, cc)
 
 -- A record that was met in a file and passed: no fault, and it stands there.
-pub met : (file : List ℕ) (kind : ℕ) (here : Cursor) (fault place : ℕ) {next : Cursor} → At next ≡ in_file file kind here (judge fault place)
+pub met : (file : List ℕ) (kind : ℕ) (here : Cursor) (fault place : ℕ) {next : Cursor} → Ok next ≡ in_file file kind here (judge fault place)
     → (fault ≡ 0) × Held file here.at (record_of kind) (here.at + 4) next
 met file kind here fault place {next} e =
     let (at, c, found, j) = through_step (step file here.at (record_of kind)) e in
@@ -121,24 +120,24 @@ met file kind here fault place {next} e =
     (none, subst₂ (λ (b : ℕ) (c : Cursor). Held file here.at (record_of kind) b c) (held found).starts same (held found))
 
 module _ (file : List ℕ) where
-  pub entry_met : (n m floor column raised lowered : ℕ) (here : Cursor) {next : Cursor} → At next ≡ entry_test (in_file file) n m floor column raised lowered here
+  pub entry_met : (n m floor column raised lowered : ℕ) (here : Cursor) {next : Cursor} → Ok next ≡ entry_test (in_file file) n m floor column raised lowered here
       → (entry_fault n m floor column raised lowered ≡ 0) × Held file here.at (record_of records.flips) (here.at + 4) next
   unfolding entry_test
   entry_met n m floor column raised lowered here e = met file records.flips here (entry_fault n m floor column raised lowered) here.at e
 
-  pub group_met : (n : ℕ) (taxa : List ℕ) (i : ℕ) (here : Cursor) {next : Cursor} → At next ≡ group_test (in_file file) n taxa i here
+  pub group_met : (n : ℕ) (taxa : List ℕ) (i : ℕ) (here : Cursor) {next : Cursor} → Ok next ≡ group_test (in_file file) n taxa i here
       → (group_fault n taxa i ≡ 0) × Held file here.at (record_of records.group) (here.at + 4) next
   unfolding group_test
   group_met n taxa i here e = met file records.group here (group_fault n taxa i) here.at e
 
-  pub head_met : (n m groups flips listed : ℕ) {next : Cursor} → At next ≡ head_test (in_file file) n m groups flips listed
+  pub head_met : (n m groups flips listed : ℕ) {next : Cursor} → Ok next ≡ head_test (in_file file) n m groups flips listed
       → HeadKept n m groups flips listed × Held file 0 (record_of records.answer_head) 4 next
   unfolding head_test
   head_met n m groups flips listed e =
       let (none, h) = met file records.answer_head (record { at = 0 }) (head_fault n m groups flips listed) 0 e in
       (head_keeps n m groups flips listed none, h)
 
-  pub groups_move : (n k : ℕ) (taxa : List ℕ) (from : Cursor) {end : Cursor} → At end ≡ walk (group_test (in_file file) n taxa) k from → from.at ≤ length file
+  pub groups_move : (n k : ℕ) (taxa : List ℕ) (from : Cursor) {end : Cursor} → Ok end ≡ walk (group_test (in_file file) n taxa) k from → from.at ≤ length file
       → (end.at ≡ from.at + 16 * k) × (end.at ≤ length file)
   groups_move n k taxa from e l =
       let one = group_test (in_file file) n taxa in (
@@ -146,7 +145,7 @@ module _ (file : List ℕ) where
         walk_within one (length file) (λ i here next e. let h = (group_met n taxa i here e).1 in omega arith) k from e l,
       )
 
-  pub flips_move : (n m k : ℕ) (columns raised lowered : List ℕ) (from : Cursor) {end : Cursor} → At end ≡ walk (flips_test (in_file file) n m columns raised lowered) k from → from.at ≤ length file
+  pub flips_move : (n m k : ℕ) (columns raised lowered : List ℕ) (from : Cursor) {end : Cursor} → Ok end ≡ walk (flips_test (in_file file) n m columns raised lowered) k from → from.at ≤ length file
       → (end.at ≡ from.at + 22 * k) × (end.at ≤ length file)
   flips_move n m k columns raised lowered from e l =
       let one = flips_test (in_file file) n m columns raised lowered in (
@@ -199,27 +198,27 @@ module _ (file : List ℕ) where
 
 -- ---- records met as given
 
-pub given_group : (n : ℕ) (taxa : List ℕ) (i : ℕ) (here : Cursor) {next : Cursor} → At next ≡ group_test as_given n taxa i here → (group_fault n taxa i ≡ 0) × (next.at ≡ here.at + 16)
+pub given_group : (n : ℕ) (taxa : List ℕ) (i : ℕ) (here : Cursor) {next : Cursor} → Ok next ≡ group_test as_given n taxa i here → (group_fault n taxa i ≡ 0) × (next.at ≡ here.at + 16)
 unfolding group_test
 given_group n taxa i here e =
     let (none, same) = through_judge (group_fault n taxa i) here.at (record { at = here.at + 4 + 12 }) e in
     (none, sym (ap (λ (c : Cursor). c.at) same) ∙ omega arith)
 
-pub given_entry : (n m floor column raised lowered : ℕ) (here : Cursor) {next : Cursor} → At next ≡ entry_test as_given n m floor column raised lowered here
+pub given_entry : (n m floor column raised lowered : ℕ) (here : Cursor) {next : Cursor} → Ok next ≡ entry_test as_given n m floor column raised lowered here
     → (entry_fault n m floor column raised lowered ≡ 0) × (next.at ≡ here.at + 22)
 unfolding entry_test
 given_entry n m floor column raised lowered here e =
     let (none, same) = through_judge (entry_fault n m floor column raised lowered) here.at (record { at = here.at + 4 + 18 }) e in
     (none, sym (ap (λ (c : Cursor). c.at) same) ∙ omega arith)
 
-pub given_head : (n m groups flips listed : ℕ) {next : Cursor} → At next ≡ head_test as_given n m groups flips listed → HeadKept n m groups flips listed × (next.at ≡ 16)
+pub given_head : (n m groups flips listed : ℕ) {next : Cursor} → Ok next ≡ head_test as_given n m groups flips listed → HeadKept n m groups flips listed × (next.at ≡ 16)
 unfolding head_test
 given_head n m groups flips listed e =
     let (none, same) = through_judge (head_fault n m groups flips listed) 0 (record { at = 0 + 4 + 12 }) e in
     (head_keeps n m groups flips listed none, sym (ap (λ (c : Cursor). c.at) same))
 
-pub given_groups_move : (n k : ℕ) (taxa : List ℕ) (from : Cursor) {end : Cursor} → At end ≡ walk (group_test as_given n taxa) k from → end.at ≡ from.at + 16 * k
+pub given_groups_move : (n k : ℕ) (taxa : List ℕ) (from : Cursor) {end : Cursor} → Ok end ≡ walk (group_test as_given n taxa) k from → end.at ≡ from.at + 16 * k
 given_groups_move n k taxa from = walk_moves (group_test as_given n taxa) 16 (λ i here next e. (given_group n taxa i here e).1) k from
 
-pub given_flips_move : (n m k : ℕ) (columns raised lowered : List ℕ) (from : Cursor) {end : Cursor} → At end ≡ walk (flips_test as_given n m columns raised lowered) k from → end.at ≡ from.at + 22 * k
+pub given_flips_move : (n m k : ℕ) (columns raised lowered : List ℕ) (from : Cursor) {end : Cursor} → Ok end ≡ walk (flips_test as_given n m columns raised lowered) k from → end.at ≡ from.at + 22 * k
 given_flips_move n m k columns raised lowered from = walk_moves (flips_test as_given n m columns raised lowered) 22 (λ j here next e. (given_entry n m _ _ _ _ here e).1) k from

@@ -1,15 +1,14 @@
 -- The operation "read an answer": refusals 1 to 4, 6, 12, 13, 14, then 8, then 10 (document 01, "Operations and refusals").
-use Rattle.std.specs.Prelude.{◌≡◌, cond, List, [], ℕ, min, ltb, length}
+use Rattle.std.specs.Prelude.{◌≡◌, cond, List, [], ℕ, min, ltb, length, Ok, Err}
 use Rattle.record.specs.Bytes.{over}
-use Rattle.record.specs.Records.{onward, nothing_after}
-use Rattle.record.specs.declared.Passed.{Passed}
-use Rattle.record.specs.declared.Passed.TheVariants as passed
+use Rattle.record.specs.Records.{onward, nothing_after, Passed}
 use Rattle.answer.specs.declared.Answer.{Answer}
 use Rattle.answer.specs.declared.Reading.{Reading}
 use Rattle.answer.specs.declared.Verdict.{Verdict}
 use Rattle.answer.specs.declared.Verdict.TheVariants.{Taken, Refused}
 use Rattle.answer.specs.Content.{Content, content_in, flip_count, answer_of}
 use Rattle.answer.specs.Tests.{judge, in_file, tests}
+use Rattle.record.specs.Refusals.{refusal_number}
 
 -- How many entries a lent list has that stands in three parts.
 abbrev pub listed : List ℕ → List ℕ → List ℕ → ℕ
@@ -29,8 +28,8 @@ empty = record { n = 0; m = 0; groups = 0; flips = 0; total = 0; taxa = []; cost
 
 -- The content's value where the tests passed, and else the refusal.
 abbrev pub answered : Content → Passed → Reading
-answered c (passed.At here) = record { verdict = Taken; answer = answer_of c }
-answered c (passed.Refused why) = record { verdict = Refused why; answer = answer_of empty }
+answered c (Ok here) = record { verdict = Taken; answer = answer_of c }
+answered c (Err why) = record { verdict = Refused why; answer = answer_of empty }
 
 -- What reading a file answers, for a list with room for so many entries.
 unfoldable pub reading : List ℕ → ℕ → Reading
@@ -50,7 +49,7 @@ pub record Returned : Type 0 where
 -- These numbers, by the verdict.
 abbrev pub returned_by : Verdict → Answer → Returned
 returned_by Taken a = record { number = 0; place = 0; answer = a }
-returned_by (Refused why) a = record { number = why.number; place = why.place; answer = a }
+returned_by (Refused why) a = record { number = refusal_number why.reason; place = why.place; answer = a }
 
 -- Those of a reading.
 abbrev pub returned : Reading → Returned

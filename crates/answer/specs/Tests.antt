@@ -1,16 +1,14 @@
 -- The tests of reading, which "writing makes on what it is given, placed as in the file": record by record, each at its place.
-use Rattle.std.specs.Prelude.{cond, List, ℕ, zero, suc, ◌+◌, eqb, get_or}
+use Rattle.std.specs.Prelude.{cond, List, ℕ, zero, suc, ◌+◌, eqb, get_or, Ok, Err}
 use Rattle.record.specs.Records as records
-use Rattle.record.specs.Records.{record_of, payload, refused, step, judged, onward}
+use Rattle.record.specs.Records.{record_of, payload, refused, step, judged, onward, Passed}
 use Rattle.record.specs.declared.Cursor.{Cursor}
-use Rattle.record.specs.declared.Passed.{Passed}
-use Rattle.record.specs.declared.Passed.TheVariants.{At, Refused}
 use Rattle.answer.specs.Content.{Content}
 use Rattle.answer.specs.Rules.{head_fault, group_fault, floor_of, entry_fault, total_fault}
 
 -- A record that was judged at its place: refused by a number, or passed on 0.
 unfoldable pub judge : ℕ → ℕ → Cursor → Passed
-judge fault place next = cond (eqb fault 0) (At next) (Refused (refused fault place))
+judge fault place next = cond (eqb fault 0) (Ok next) (Err (refused fault place))
 
 -- How a record of a kind is met before it is judged.
 abbrev pub Meet : Type 0
@@ -26,7 +24,7 @@ as_given kind here go = go (record { at = here.at + 4 + payload kind })
 
 -- Records 0 to k - 1, one after the other.
 unfoldable pub walk : (ℕ → Cursor → Passed) → ℕ → Cursor → Passed
-walk one zero here = At here
+walk one zero here = Ok here
 walk one (suc k) here = onward (walk one k here) (one k)
 
 -- The first place.

@@ -11,11 +11,9 @@ use lib.ListN.{length, get_or, take, drop}
 use lib.Seq.{length-take-le, take_at, get_or-take}
 use borrow.Author.Tests.{ltb-true, ltb-false, lt-ltb, le-ltb}
 use Rattle.record.specs.Bytes.{over as laidOver}
-use Rattle.record.specs.Records.{onward}
+use Rattle.record.specs.Records.{onward, Passed}
 use Rattle.record.specs.declared.Cursor.{Cursor}
-use Rattle.record.specs.declared.Passed.{Passed}
-use Rattle.record.specs.declared.Passed.TheVariants as passed
-use Rattle.record.specs.declared.Refusal.{Refusal}
+use Rattle.record.specs.declared.refusal.Refusal.{Refusal}
 use Rattle.record.proofs.Passing.{through}
 use Rattle.answer.specs.Content.{content_in, answer_of, flip_count, columns_from, raised_from, lowered_from}
 use Rattle.answer.specs.Tests.{judge, in_file, flips_test}
@@ -32,6 +30,7 @@ use Rattle.entries.specs.declared.Flip.{Flip}
 use Rattle.entries.specs.Entries.{zipped, entries_of, stored, ReadsEntries}
 use Rattle.entries.specs.inner.Parts.{with_first, InParts}
 use Rattle.entries.proofs.Rows.{long_zipped}
+use Rattle.std.specs.Prelude.{Ok, Err}
 
 -- ---- entries from parts
 pub take_zipped : (k : ℕ) (cs us ds : List ℕ) → take k (zipped cs us ds) ≡ zipped (take k cs) (take k us) (take k ds)
@@ -66,7 +65,7 @@ room_same entries flips few = go (ltb entries flips) refl
     go false e = let l = ltb-false entries flips e in le-ltb (min entries 256) flips (omega arith)
 
 module _ (file : List ℕ) where
-  few_flips : {here : Cursor} → passed.At here ≡ file_tests file → flip_count file ≤ 256
+  few_flips : {here : Cursor} → Ok here ≡ file_tests file → flip_count file ≤ 256
   few_flips e = let h = (laid file e).head_kept in omega (arith, h.flips_fit, h.columns)
 
   reading_same : (entries : ℕ) → reading file (min entries 256) ≡ reading file entries
@@ -74,11 +73,11 @@ module _ (file : List ℕ) where
   reading_same entries = ap (answered (content_in file)) (go (file_tests file) refl)
     where
       go : (p : Passed) → p ≡ file_tests file → onward p (judge (cond (ltb (min entries 256) (flip_count file)) 10 0) 0) ≡ onward p (judge (cond (ltb entries (flip_count file)) 10 0) 0)
-      go (passed.At here) e = ap (λ (b : Bool). judge (cond b 10 0) 0 here) (room_same entries (flip_count file) (few_flips e))
-      go (passed.Refused why) e = refl
+      go (Ok here) e = ap (λ (b : Bool). judge (cond b 10 0) 0 here) (room_same entries (flip_count file) (few_flips e))
+      go (Err why) e = refl
 
   -- A column of an accepted file is below m.
-  column_below : {here : Cursor} → passed.At here ≡ file_tests file → (i : ℕ) → i < flip_count file → get_or (content_in file).columns i 0 < 256
+  column_below : {here : Cursor} → Ok here ≡ file_tests file → (i : ℕ) → i < flip_count file → get_or (content_in file).columns i 0 < 256
   column_below e i l =
       let c = content_in file in
       let s = (read_through file e).stages in
@@ -101,7 +100,7 @@ module _ (file : List ℕ) (entries : ℕ) where
   refused_parts why e a =
       record { answers = a; has_room = rw e (omega arith); few = rw e (omega arith); columns_first = rw e; raised_first = rw e; lowered_first = rw e; columns_narrow = rw e (λ i l. absurd (not-suc-le-zero l)) }
 
-  taken_parts : {here : Cursor} {r : Reading} {cs us ds : List ℕ} → passed.At here ≡ file_tests file → flip_count file ≤ room → r ≡ record { verdict = Taken; answer = answer_of (content_in file) } → r ≡ reading file entries
+  taken_parts : {here : Cursor} {r : Reading} {cs us ds : List ℕ} → Ok here ≡ file_tests file → flip_count file ≤ room → r ≡ record { verdict = Taken; answer = answer_of (content_in file) } → r ≡ reading file entries
       → take (flip_count file) cs ≡ (content_in file).columns → take (flip_count file) us ≡ (content_in file).raised → take (flip_count file) ds ≡ (content_in file).lowered → InParts file entries r cs us ds
   taken_parts {cs = cs} p l e a c u d =
       record {
@@ -129,7 +128,7 @@ module _ (file : List ℕ) (entries : ℕ) where
     in_parts = go (read_tests file room) refl
       where
         go : (p : Passed) → p ≡ read_tests file room → InParts file entries r (cs' ++ drop room cs) (us' ++ drop room us) (ds' ++ drop room ds)
-        go (passed.At here) e =
+        go (Ok here) e =
             let (at, p, j) = through (file_tests file) e in
             let l = ltb-false room (flip_count file) (unless _ 10 0 (omega arith) (through_judge _ 0 at j).0).0 in
             let is : r ≡ record { verdict = Taken; answer = answer_of (content_in file) } = answers_room ∙ ap (answered (content_in file)) (sym e) in
@@ -137,4 +136,4 @@ module _ (file : List ℕ) (entries : ℕ) where
             (rw (reads.columns_after, is) (front (content_in file).columns (take room cs) (drop room cs) (flip_count file) (length_entries _ (flip_count file))))
             (rw (reads.raised_after, is) (front (content_in file).raised (take room us) (drop room us) (flip_count file) (length_entries _ (flip_count file))))
             (rw (reads.lowered_after, is) (front (content_in file).lowered (take room ds) (drop room ds) (flip_count file) (length_entries _ (flip_count file))))
-        go (passed.Refused why) e = refused_parts why (answers_room ∙ ap (answered (content_in file)) (sym e)) (answers_room ∙ reading_same file entries)
+        go (Err why) e = refused_parts why (answers_room ∙ ap (answered (content_in file)) (sym e)) (answers_room ∙ reading_same file entries)

@@ -9,11 +9,7 @@ use lib.Dec.{ltb, eqb}
 use lib.ListN.{length, take, drop, length-map}
 use lib.Seq.{length-take-le, take_at, take_all, take-take}
 use borrow.Author.Tests.{ltb-true, ltb-false}
-use Rattle.record.specs.declared.Passed.{Passed}
-use Rattle.record.specs.declared.Passed.TheVariants as passed
 use Rattle.answer.specs.declared.Answer.{Answer}
-use Rattle.answer.specs.declared.Written.{Written}
-use Rattle.answer.specs.declared.Written.TheVariants as written
 use Rattle.answer.specs.Content.{Content, content_of, file_of}
 use Rattle.answer.specs.Rules.{counted, head_fault}
 use Rattle.answer.specs.Tests.{as_given, head_test, tests}
@@ -25,6 +21,9 @@ use Rattle.entries.specs.declared.Flip.{Flip}
 use Rattle.entries.specs.Entries.{entry_columns, entry_raised, entry_lowered, entry_content}
 use Rattle.entries.specs.inner.Parts.{with_first}
 use Rattle.entries.proofs.Reading.{room_same}
+use Rattle.std.specs.Prelude.{Result, Ok, Err}
+use Rattle.record.specs.declared.refusal.Refusal.{Refusal}
+use Rattle.record.specs.Records.{Passed}
 
 -- ---- the head is judged as for the whole list
 module _ (n m groups flips entries : ℕ) where
@@ -78,7 +77,7 @@ module _ (a : Answer) (ys : List Flip) (cs us ds : List ℕ) where
   enough_given l =
       rw (take-take a.flips k (entry_columns ys) l, take-take a.flips k (entry_raised ys) l, take-take a.flips k (entry_lowered ys) l)
 
-  module _ (out : List ℕ) {r : Written} {out' : List ℕ} where
+  module _ (out : List ℕ) {r : Result ℕ Refusal} {out' : List ℕ} where
     same : Writes whole k out r out' → Writes whole (length ys) out r out'
     same w = record { answers = w.answers ∙ writing_same whole (length ys) (length out); numbers = w.numbers ∙ ap returned (writing_same whole (length ys) (length out)); out_after = w.out_after }
 
@@ -88,11 +87,11 @@ module _ (a : Answer) (ys : List Flip) (cs us ds : List ℕ) where
     refuses l w = go (head_test as_given a.n a.m a.groups a.flips k) refl
       where
         go : (p : Passed) → p ≡ head_test as_given a.n a.m a.groups a.flips k → Writes whole (length ys) out r out'
-        go (passed.At first) e = let h = (given_head a.n a.m a.groups a.flips k e).0 in absurd (omega (arith, h.flips_fit, h.columns))
-        go (passed.Refused why) e =
-            let s : passed.Refused why ≡ tests as_given (given k) k = head_stops as_given (given k) k e in
-            let is : r ≡ written.Refused why = w.answers ∙ sym (given_refused (given k) k out s).answers in
-            rw (is, w.out_after ∙ ap (λ (x : Written). put x (file_of (given k)) out) is) (given_refused whole (length ys) out (head_stops as_given whole (length ys) (e ∙ head_test_same a.n a.m a.groups a.flips (length ys))))
+        go (Ok first) e = let h = (given_head a.n a.m a.groups a.flips k e).0 in absurd (omega (arith, h.flips_fit, h.columns))
+        go (Err why) e =
+            let s : Err why ≡ tests as_given (given k) k = head_stops as_given (given k) k e in
+            let is : r ≡ Err why = w.answers ∙ sym (given_refused (given k) k out s).answers in
+            rw (is, w.out_after ∙ ap (λ (x : Result ℕ Refusal). put x (file_of (given k)) out) is) (given_refused whole (length ys) out (head_stops as_given whole (length ys) (e ∙ head_test_same a.n a.m a.groups a.flips (length ys))))
 
     of_given : Writes (given k) k out r out' → Writes whole (length ys) out r out'
     of_given w = few (ltb 256 (length ys)) refl

@@ -1,5 +1,5 @@
 -- The flip list as "a lent list of entries, each a column with its raised and lowered taxa" (document 01, "Operations and refusals").
-use Rattle.std.specs.Prelude.{◌≡◌, List, [], ◌∷◌, ◌++◌, map, ℕ, length, drop}
+use Rattle.std.specs.Prelude.{◌≡◌, List, [], ◌∷◌, ◌++◌, map, ℕ, length, drop, Result}
 use Rattle.answer.specs.Content.{Content, content_in, content_of}
 use Rattle.answer.specs.Reading.{reading, returned, read_numbers}
 use Rattle.answer.specs.Writing.{Writes}
@@ -7,8 +7,8 @@ use Rattle.answer.specs.declared.Answer.{Answer}
 use Rattle.answer.specs.declared.Reading.{Reading}
 use Rattle.answer.specs.declared.Verdict.{Verdict}
 use Rattle.answer.specs.declared.Verdict.TheVariants.{Taken, Refused}
-use Rattle.answer.specs.declared.Written.{Written}
 use Rattle.entries.specs.declared.Flip.{Flip}
+use Rattle.record.specs.declared.refusal.Refusal.{Refusal}
 
 -- Three lists as one of entries, as long as the shortest.
 abbrev pub zipped : List ℕ → List ℕ → List ℕ → List Flip
@@ -49,5 +49,5 @@ pub record ReadsEntries (file : List ℕ) (list : List Flip) (r : Reading) (list
   pub list_after : list' ≡ stored r.verdict (entries_of (content_in file)) ++ drop (length (stored r.verdict (entries_of (content_in file)))) list
 
 -- What writing promises of its answer and of the output: what writing the content of the value and the list promises.
-abbrev pub WritesEntries : Answer → List Flip → List ℕ → Written → List ℕ → Type 0
+abbrev pub WritesEntries : Answer → List Flip → List ℕ → Result ℕ Refusal → List ℕ → Type 0
 WritesEntries a list out r out' = Writes (entry_content a list) (length list) out r out'

@@ -6,36 +6,18 @@ use native.Mathlib.Omega.{arith}
 use lib.ListN.{length, get_or, set}
 use borrow.Author.Tests.{eq-eqb, ne_eqb}
 use Rattle.record.specs.declared.Cursor.{Cursor}
-use Rattle.record.specs.declared.Passed.{Passed}
-use Rattle.record.specs.declared.Passed.TheVariants as passed
-use Rattle.record.specs.declared.Refusal.{Refusal}
-use Rattle.matrix.specs.declared.Checked.{Checked}
-use Rattle.matrix.specs.declared.Checked.TheVariants as checks
+use Rattle.record.specs.declared.refusal.Refusal.{Refusal}
 use Rattle.matrix.specs.Check as check
 use Rattle.answer.specs.declared.Verdict.TheVariants as verdict
-use Rattle.answer.specs.declared.Written.{Written}
-use Rattle.answer.specs.declared.Written.TheVariants as written
 use Rattle.answer.specs.Content.{Content, padded, answer_of}
 use Rattle.answer.specs.Reading as reading
 use Rattle.answer.specs.Reading.{empty, answered}
 use Rattle.answer.specs.Writing as writing
-use Rattle.split.specs.declared.Divided.{Divided}
-use Rattle.split.specs.declared.Divided.TheVariants as splits
 use Rattle.split.specs.Operation as split
-use Rattle.tree.specs.declared.Built.{Built}
-use Rattle.tree.specs.declared.Built.TheVariants as builds
 use Rattle.tree.specs.Build as build
-use Rattle.score.specs.declared.Scored.{Scored}
-use Rattle.score.specs.declared.Scored.TheVariants as scores
 use Rattle.score.specs.Operation as score
-use Rattle.names.specs.declared.Listed.{Listed}
-use Rattle.names.specs.declared.Listed.TheVariants as lists
 use Rattle.names.specs.Check as names
-use Rattle.newick.specs.declared.Derived.{Derived}
-use Rattle.newick.specs.declared.Derived.TheVariants as derived
 use Rattle.newick.specs.Read as newick
-use Rattle.spelling.specs.declared.Spelled.{Spelled}
-use Rattle.spelling.specs.declared.Spelled.TheVariants as spelled
 use Rattle.spelling.specs.Write as spelling
 use Rattle.flipcut.specs.Packed.{packed, packed_build, packed_read, packed_refusal, packed_score, packed_split, packed_write, result_after, value_after}
 use Rattle.flipcut.specs.Packed.{packed_names, packed_text, packed_trees, last_place, told}
@@ -45,6 +27,14 @@ use Rattle.flipcut.specs.Unpacked.{unpacked_names, unpacked_text, unpacked_trees
 use Rattle.flipcut.proofs.Values.{value_put}
 use Rattle.flipcut.proofs.Fitting.{NamesFit}
 use Rattle.flipcut.specs.inner.Fitting.{RefusalFits, CheckFits, BuildFits, SplitFits, ReadFits, WriteFits, ScoreFits, TreesFit, TextFits}
+use Rattle.std.specs.Prelude.{Result, Ok, Err}
+use Rattle.record.specs.Records.{Passed}
+use Rattle.record.specs.Refusals.{refusal_number}
+use Rattle.matrix.specs.declared.Shape.{Shape}
+use Rattle.search.specs.declared.Split.{Split}
+use Rattle.tree.specs.declared.Built.{Built}
+use Rattle.score.specs.declared.Sums.{Sums}
+use Rattle.newick.specs.declared.Derived.{Derived}
 
 -- A refusal that fits.
 module _ (why : Refusal) (fits : RefusalFits why) where
@@ -54,7 +44,7 @@ module _ (why : Refusal) (fits : RefusalFits why) where
   flag : bits v 63 1 ≡ 1
   flag = omega arith
 
-  number : number_in v ≡ why.number
+  number : number_in v ≡ (refusal_number why.reason)
   unfolding number_in
   number = rw (eq-eqb _ _ flag) (omega arith)
 
@@ -93,24 +83,24 @@ module _ (v : ℕ) (low : v < 2 ^ 63) where
 
 -- ---- each operation's answer
 
-pub check_returns : (a : Checked) → CheckFits a → unpacked (packed a) ≡ check.returned a
-check_returns (checks.Taken n m) (l, k) =
-    let v = n + 65536 * m in
+pub check_returns : (a : Result Shape Refusal) → CheckFits a → unpacked (packed a) ≡ check.returned a
+check_returns (Ok it) (l, k) =
+    let v = it.n + 65536 * it.m in
     let low : v < 2 ^ 63 = omega arith in
     let first : bits v 0 16 ≡ n = omega arith in
     let second : bits v 16 16 ≡ m = omega arith in
     λ i. record { number = no_number v low i; place = no_place v low i; n = (result v low 0 16 ∙ first) i; m = (result v low 16 16 ∙ second) i }
-check_returns (checks.Refused why) fits =
+check_returns (Err why) fits =
     λ i. record { number = number why fits i; place = place why fits i; n = no_result why fits 0 16 i; m = no_result why fits 16 16 i }
 
-pub build_returns : (a : Built) → BuildFits a → unpacked_build (packed_build a) ≡ build.returned a
-build_returns (builds.Taken size sum) (l, k) =
-    let v = sum + 2 ^ 32 * size in
+pub build_returns : (a : Result Built Refusal) → BuildFits a → unpacked_build (packed_build a) ≡ build.returned a
+build_returns (Ok it) (l, k) =
+    let v = it.total + 2 ^ 32 * it.size in
     let low : v < 2 ^ 63 = omega arith in
     let first : bits v 32 31 ≡ size = omega arith in
     let second : bits v 0 32 ≡ sum = omega arith in
     λ i. record { number = no_number v low i; place = no_place v low i; size = (result v low 32 31 ∙ first) i; sum = (result v low 0 32 ∙ second) i }
-build_returns (builds.Refused why) fits =
+build_returns (Err why) fits =
     λ i. record { number = number why fits i; place = place why fits i; size = no_result why fits 32 31 i; sum = no_result why fits 0 32 i }
 
 -- Three numbers, each set.
@@ -121,45 +111,45 @@ all_set (x ∷ y ∷ []) e a b c = absurd (omega arith)
 all_set (x ∷ y ∷ z ∷ []) e a b c = refl
 all_set (x ∷ y ∷ z ∷ w ∷ ws) e a b c = absurd (omega arith)
 
-pub split_returns : (a : Divided) → SplitFits a → (before : List ℕ) → length before ≡ 3
+pub split_returns : (a : Result Split Refusal) → SplitFits a → (before : List ℕ) → length before ≡ 3
     → unpacked_split (packed_split a) (result_after a before) ≡ split.returned a
-split_returns (splits.Taken cost A t) fits before three =
+split_returns (Ok it) fits before three =
     let low : ◌<◌ 0 (2 ^ 63) = omega arith in
-    let lent : (k : ℕ) → lent_result 0 0 (get_or (result_after (splits.Taken cost A t) before) k 0) ≡ get_or (cost ∷ A ∷ t ∷ []) k 0
-    = λ k. lent_result_lem 0 low 0 _ ∙ ap (λ (xs : List ℕ). get_or xs k 0) (all_set before three cost A t) in
+    let lent : (k : ℕ) → lent_result 0 0 (get_or (result_after (Ok (record { cost = it.cost; side = it.side; other = it.other })) before) k 0) ≡ get_or (it.cost ∷ it.side ∷ it.other ∷ []) k 0
+    = λ k. lent_result_lem 0 low 0 _ ∙ ap (λ (xs : List ℕ). get_or xs k 0) (all_set before three it.cost it.side it.other) in
     λ i. record { number = no_number 0 low i; place = no_place 0 low i; cost = lent 0 i; side = lent 1 i; t = lent 2 i }
-split_returns (splits.Refused why) fits before three =
+split_returns (Err why) fits before three =
     let none : (k : ℕ) → lent_result (packed_refusal why) 0 (get_or before k 0) ≡ 0 = λ k. none_lent why fits 0 (get_or before k 0) in
     λ i. record { number = number why fits i; place = place why fits i; cost = none 0 i; side = none 1 i; t = none 2 i }
 
 -- Of a refused reading the value is that of an empty content.
 pub read_returns : (c : Content) (p : Passed) (before : List ℕ) → length before ≡ 131 → let r = answered c p in
-    ((here : Cursor) → passed.At here ≡ p → (length (padded c.taxa) ≡ 63) × (length (padded c.costs) ≡ 63)) → ReadFits r.verdict
+    ((here : Cursor) → Ok here ≡ p → (length (padded c.taxa) ≡ 63) × (length (padded c.costs) ≡ 63)) → ReadFits r.verdict
     → unpacked_read (packed_read r.verdict) (value_after r.verdict r.answer before) ≡ reading.returned r
-read_returns c (passed.At here) before long full fits =
+read_returns c (Ok here) before long full fits =
     let low : ◌<◌ 0 (2 ^ 63) = omega arith in
     let (taxa, costs) = full here refl in
     let value = lent_result_lem 0 low (answer_of empty) (value_in (value_after verdict.Taken (answer_of c) before)) ∙ value_put (answer_of c) before long taxa costs in
     λ i. record { number = no_number 0 low i; place = no_place 0 low i; answer = value i }
-read_returns c (passed.Refused why) before long full fits =
+read_returns c (Err why) before long full fits =
     λ i. record { number = number why fits i; place = place why fits i; answer = none_lent why fits (answer_of empty) (value_in before) i }
 
-pub write_returns : (a : Written) → WriteFits a → unpacked_write (packed_write a) ≡ writing.returned a
-write_returns (written.Length size) fits =
+pub write_returns : (a : Result ℕ Refusal) → WriteFits a → unpacked_write (packed_write a) ≡ writing.returned a
+write_returns (Ok size) fits =
     let v = 2 ^ 32 * size in
     let low : v < 2 ^ 63 = omega arith in
     let first : bits v 32 31 ≡ size = omega arith in
     λ i. record { number = no_number v low i; place = no_place v low i; size = (result v low 32 31 ∙ first) i }
-write_returns (written.Refused why) fits = λ i. record { number = number why fits i; place = place why fits i; size = no_result why fits 32 31 i }
+write_returns (Err why) fits = λ i. record { number = number why fits i; place = place why fits i; size = no_result why fits 32 31 i }
 
-pub score_returns : (a : Scored) → ScoreFits a → unpacked_score (packed_score a) ≡ score.returned a
-score_returns (scores.Taken up down) (l, k) =
-    let v = down.0 + 2 ^ 31 * up.0 in
+pub score_returns : (a : Result Sums Refusal) → ScoreFits a → unpacked_score (packed_score a) ≡ score.returned a
+score_returns (Ok it) (l, k) =
+    let v = it.lowers.0 + 2 ^ 31 * it.raises.0 in
     let low : v < 2 ^ 63 = omega arith in
-    let first : bits v 31 31 ≡ up.0 = omega arith in
-    let second : bits v 0 31 ≡ down.0 = omega arith in
+    let first : bits v 31 31 ≡ it.raises.0 = omega arith in
+    let second : bits v 0 31 ≡ it.lowers.0 = omega arith in
     λ i. record { number = no_number v low i; place = no_place v low i; raises = (result v low 31 31 ∙ first) i; lowers = (result v low 0 31 ∙ second) i }
-score_returns (scores.Refused why) fits =
+score_returns (Err why) fits =
     λ i. record { number = number why fits i; place = place why fits i; raises = no_result why fits 31 31 i; lowers = no_result why fits 0 31 i }
 
 -- ---- the answers whose refusals are told
@@ -167,40 +157,40 @@ score_returns (scores.Refused why) fits =
 as_it_is : {place : ℕ} → place < 2 ^ 55 → min place last_place ≡ place
 as_it_is near = omega arith
 
-pub names_returns : (a : Listed) → NamesFit a → (names.returned a).place < 2 ^ 55 → unpacked_names (packed_names a) ≡ names.returned a
-names_returns (lists.Taken k) low near =
+pub names_returns : (a : Result ℕ Refusal) → NamesFit a → (names.returned a).place < 2 ^ 55 → unpacked_names (packed_names a) ≡ names.returned a
+names_returns (Ok k) low near =
     let first : bits k 0 63 ≡ k = omega arith in
     λ i. record { number = no_number k low i; place = no_place k low i; count = (result k low 0 63 ∙ first) i }
-names_returns (lists.Refused why) fits near =
+names_returns (Err why) fits near =
     let w = told why in
     λ i. record { number = number w fits i; place = (place w fits ∙ as_it_is near) i; count = no_result w fits 0 63 i }
 
-pub trees_returns : (a : Derived) → TreesFit a → (newick.returned a).place < 2 ^ 55 → unpacked_trees (packed_trees a) ≡ newick.returned a
-trees_returns (derived.Taken matrix list) (l, k) near =
-    let v = list + 2 ^ 32 * matrix in
+pub trees_returns : (a : Result Derived Refusal) → TreesFit a → (newick.returned a).place < 2 ^ 55 → unpacked_trees (packed_trees a) ≡ newick.returned a
+trees_returns (Ok it) (l, k) near =
+    let v = it.names + 2 ^ 32 * it.matrix in
     let low : v < 2 ^ 63 = omega arith in
     let first : bits v 32 31 ≡ matrix = omega arith in
     let second : bits v 0 32 ≡ list = omega arith in
     λ i. record { number = no_number v low i; place = no_place v low i; matrix = (result v low 32 31 ∙ first) i; names = (result v low 0 32 ∙ second) i }
-trees_returns (derived.Refused why) fits near =
+trees_returns (Err why) fits near =
     let w = told why in
     λ i. record { number = number w fits i; place = (place w fits ∙ as_it_is near) i; matrix = no_result w fits 32 31 i; names = no_result w fits 0 32 i }
 
-pub text_returns : (a : Spelled) → TextFits a → (spelling.returned a).place < 2 ^ 55 → unpacked_text (packed_text a) ≡ spelling.returned a
-text_returns (spelled.Length size) fits near =
+pub text_returns : (a : Result ℕ Refusal) → TextFits a → (spelling.returned a).place < 2 ^ 55 → unpacked_text (packed_text a) ≡ spelling.returned a
+text_returns (Ok size) fits near =
     let v = 2 ^ 32 * size in
     let low : v < 2 ^ 63 = omega arith in
     let first : bits v 32 31 ≡ size = omega arith in
     λ i. record { number = no_number v low i; place = no_place v low i; size = (result v low 32 31 ∙ first) i }
-text_returns (spelled.Refused why) fits near =
+text_returns (Err why) fits near =
     let w = told why in
     λ i. record { number = number w fits i; place = (place w fits ∙ as_it_is near) i; size = no_result w fits 32 31 i }
 
 -- The number, wherever the place is.
-pub trees_number : (a : Derived) → TreesFit a → number_in (packed_trees a) ≡ (newick.returned a).number
-trees_number (derived.Taken matrix list) (l, k) = no_number (list + 2 ^ 32 * matrix) (omega arith)
-trees_number (derived.Refused why) fits = number (told why) fits
+pub trees_number : (a : Result Derived Refusal) → TreesFit a → number_in (packed_trees a) ≡ (newick.returned a).number
+trees_number (Ok it) (l, k) = no_number (it.names + 2 ^ 32 * it.matrix) (omega arith)
+trees_number (Err why) fits = number (told why) fits
 
-pub text_number : (a : Spelled) → TextFits a → number_in (packed_text a) ≡ (spelling.returned a).number
-text_number (spelled.Length size) fits = no_number (2 ^ 32 * size) (omega arith)
-text_number (spelled.Refused why) fits = number (told why) fits
+pub text_number : (a : Result ℕ Refusal) → TextFits a → number_in (packed_text a) ≡ (spelling.returned a).number
+text_number (Ok size) fits = no_number (2 ^ 32 * size) (omega arith)
+text_number (Err why) fits = number (told why) fits

@@ -9,7 +9,6 @@ use lib.Dec.{lit<, lit≤}
 use lib.ListN.{length, length-set, get_or, set, replicate}
 use lib.Seq.{get_or-set_same, get_or-set_other}
 use Rattle.record.specs.declared.Cursor.{Cursor}
-use Rattle.record.specs.declared.Passed.TheVariants.{At}
 use Rattle.record.proofs.Over.{length_over}
 use Rattle.record.proofs.Passing.{through}
 use Rattle.answer.specs.declared.Answer.{Answer}
@@ -21,6 +20,7 @@ use Rattle.answer.proofs.Files.{head_of, head_leads}
 use Rattle.answer.proofs.Runs.{length_entries, entries_are}
 use Rattle.flipcut.specs.Packed.{groups_at, costs_at, with_groups, value_after}
 use Rattle.flipcut.specs.Unpacked.{value_in}
+use Rattle.std.specs.Prelude.{Ok}
 
 -- ---- the groups and costs in their places
 module _ (taxa costs xs : List ℕ) (long : length xs ≡ 131) where
@@ -107,7 +107,7 @@ value_put a before long full full' =
 
 -- ---- a file that is read
 
-pub read_long : (file : List ℕ) (room : ℕ) (here : Cursor) → At here ≡ read_tests file room
+pub read_long : (file : List ℕ) (room : ℕ) (here : Cursor) → Ok here ≡ read_tests file room
     → (length (padded (content_in file).taxa) ≡ 63) × (length (padded (content_in file).costs) ≡ 63)
 unfolding read_tests file_tests tests taxa_in costs_in
 read_long file room here e =

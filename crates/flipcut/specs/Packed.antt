@@ -3,55 +3,45 @@
 -- to 31 and the length written in bits 32 to 62, where every writing has it; of the score, lowers are in bits 0 to 30 and raises in bits 31 to 61. Of source
 -- trees the matrix file's length is in bits 32 to 62 and the name list's in bits 0 to 31; of the check of a name list, bits 0 to 62 are how many names there
 -- are. What the split and the reading of an answer find does not fit, and is put into numbers that are lent for it.
-use Rattle.std.specs.Prelude.{◌≡◌, List, ℕ, zero, suc, ◌+◌, ◌-◌, ◌*◌, ◌^◌, min, ℤ, get_or, set}
-use Rattle.record.specs.declared.Refusal.{Refusal}
-use Rattle.matrix.specs.declared.Checked.{Checked}
-use Rattle.matrix.specs.declared.Checked.TheVariants.{Taken, Refused}
+use Rattle.std.specs.Prelude.{◌≡◌, List, ℕ, zero, suc, ◌+◌, ◌-◌, ◌*◌, ◌^◌, min, ℤ, get_or, set, Result, Ok, Err}
+use Rattle.record.specs.declared.refusal.Refusal.{Refusal}
 use Rattle.answer.specs.declared.Answer.{Answer}
 use Rattle.answer.specs.declared.Reading.{Reading}
 use Rattle.answer.specs.declared.Verdict.{Verdict}
 use Rattle.answer.specs.declared.Verdict.TheVariants as verdict
-use Rattle.answer.specs.declared.Written.{Written}
-use Rattle.answer.specs.declared.Written.TheVariants as written
 use Rattle.entries.specs.declared.Flip.{Flip}
 use Rattle.entries.specs.Entries.{ReadsEntries, WritesEntries}
-use Rattle.split.specs.declared.Divided.{Divided}
-use Rattle.split.specs.declared.Divided.TheVariants as splits
 use Rattle.split.specs.Operation.{Splits}
-use Rattle.tree.specs.declared.Built.{Built}
-use Rattle.tree.specs.declared.Built.TheVariants as builds
 use Rattle.tree.specs.Build.{Builds}
 use Rattle.tree.specs.Tree.{GivesTree}
 use Rattle.tree.specs.Flips.{GivesFlips}
-use Rattle.score.specs.declared.Scored.{Scored}
-use Rattle.score.specs.declared.Scored.TheVariants as scores
-use Rattle.names.specs.declared.Listed.{Listed}
-use Rattle.names.specs.declared.Listed.TheVariants as lists
-use Rattle.newick.specs.declared.Derived.{Derived}
-use Rattle.newick.specs.declared.Derived.TheVariants as derived
 use Rattle.newick.specs.Read as newick
-use Rattle.spelling.specs.declared.Spelled.{Spelled}
-use Rattle.spelling.specs.declared.Spelled.TheVariants as spelled
 use Rattle.spelling.specs.Write.{Spells}
+use Rattle.record.specs.Refusals.{refusal_number}
+use Rattle.matrix.specs.declared.Shape.{Shape}
+use Rattle.search.specs.declared.Split.{Split}
+use Rattle.tree.specs.declared.Built.{Built}
+use Rattle.score.specs.declared.Sums.{Sums}
+use Rattle.newick.specs.declared.Derived.{Derived}
 
 -- A refusal, packed.
 abbrev pub packed_refusal : Refusal → ℕ
-packed_refusal why = 2 ^ 63 + (why.number + 256 * why.place)
+packed_refusal why = 2 ^ 63 + ((refusal_number why.reason) + 256 * why.place)
 
 -- What the check answers, packed.
-abbrev pub packed : Checked → ℕ
-packed (Taken n m) = n + 65536 * m
-packed (Refused why) = packed_refusal why
+abbrev pub packed : Result Shape Refusal → ℕ
+packed (Ok it) = it.n + 65536 * it.m
+packed (Err why) = packed_refusal why
 
 -- What the build answers, and the tree and the flips.
-abbrev pub packed_build : Built → ℕ
-packed_build (builds.Taken size sum) = sum + 2 ^ 32 * size
-packed_build (builds.Refused why) = packed_refusal why
+abbrev pub packed_build : Result Built Refusal → ℕ
+packed_build (Ok it) = it.total + 2 ^ 32 * it.size
+packed_build (Err why) = packed_refusal why
 
 -- What the split answers: 0, and the rest where it is lent.
-abbrev pub packed_split : Divided → ℕ
-packed_split (splits.Taken cost A t) = 0
-packed_split (splits.Refused why) = packed_refusal why
+abbrev pub packed_split : Result Split Refusal → ℕ
+packed_split (Ok it) = 0
+packed_split (Err why) = packed_refusal why
 
 -- What reading answers: 0, and the rest where it is lent.
 abbrev pub packed_read : Verdict → ℕ
@@ -59,41 +49,41 @@ packed_read verdict.Taken = 0
 packed_read (verdict.Refused why) = packed_refusal why
 
 -- What writing answers.
-abbrev pub packed_write : Written → ℕ
-packed_write (written.Length size) = 2 ^ 32 * size
-packed_write (written.Refused why) = packed_refusal why
+abbrev pub packed_write : Result ℕ Refusal → ℕ
+packed_write (Ok size) = 2 ^ 32 * size
+packed_write (Err why) = packed_refusal why
 
 -- What the score answers.
-abbrev pub packed_score : Scored → ℕ
-packed_score (scores.Taken raises lowers) = lowers.0 + 2 ^ 31 * raises.0
-packed_score (scores.Refused why) = packed_refusal why
+abbrev pub packed_score : Result Sums Refusal → ℕ
+packed_score (Ok it) = it.lowers.0 + 2 ^ 31 * it.raises.0
+packed_score (Err why) = packed_refusal why
 
 -- No bound is set to a text or a name list. A refusal so far out that 55 bits cannot hold its place is told at the last place that they can.
 abbrev pub last_place : ℕ
 last_place = 2 ^ 55 - 1
 
 abbrev pub told : Refusal → Refusal
-told why = record { number = why.number; place = min why.place last_place }
+told why = record { number = refusal_number why.reason; place = min why.place last_place }
 
 -- What the check of a name list answers.
-abbrev pub packed_names : Listed → ℕ
-packed_names (lists.Taken count) = count
-packed_names (lists.Refused why) = packed_refusal (told why)
+abbrev pub packed_names : Result ℕ Refusal → ℕ
+packed_names (Ok count) = count
+packed_names (Err why) = packed_refusal (told why)
 
 -- What reading source trees answers.
-abbrev pub packed_trees : Derived → ℕ
-packed_trees (derived.Taken matrix names) = names + 2 ^ 32 * matrix
-packed_trees (derived.Refused why) = packed_refusal (told why)
+abbrev pub packed_trees : Result Derived Refusal → ℕ
+packed_trees (Ok it) = it.names + 2 ^ 32 * it.matrix
+packed_trees (Err why) = packed_refusal (told why)
 
 -- What writing as Newick answers.
-abbrev pub packed_text : Spelled → ℕ
-packed_text (spelled.Length size) = 2 ^ 32 * size
-packed_text (spelled.Refused why) = packed_refusal (told why)
+abbrev pub packed_text : Result ℕ Refusal → ℕ
+packed_text (Ok size) = 2 ^ 32 * size
+packed_text (Err why) = packed_refusal (told why)
 
 -- What a split's three lent numbers are at the end: its cost, its side A and t; on a refusal what they were.
-abbrev pub result_after : Divided → List ℕ → List ℕ
-result_after (splits.Taken cost A t) result = set (set (set result 0 cost) 1 A) 2 t
-result_after (splits.Refused why) result = result
+abbrev pub result_after : Result Split Refusal → List ℕ → List ℕ
+result_after (Ok it) result = set (set (set result 0 it.cost) 1 it.side) 2 it.other
+result_after (Err why) result = result
 
 -- Where the groups start among a reading's numbers, and where their costs do.
 abbrev pub groups_at : ℕ

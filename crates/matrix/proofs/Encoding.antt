@@ -16,15 +16,15 @@ use Rattle.record.specs.Bytes.{number_at, bytes_of}
 use Rattle.record.specs.Records as records
 use Rattle.record.specs.Records.{record_of, multiplicity_record, record_bytes}
 use Rattle.record.specs.declared.Cursor.{Cursor}
-use Rattle.record.specs.declared.Passed.TheVariants.{At}
 use Rattle.record.proofs.Numbers.{length_bytes, past, field_read}
 use Rattle.record.proofs.Steps.{held, content_stands, record_taken, none_after}
 use Rattle.matrix.specs.declared.Column.{Column}
-use Rattle.matrix.specs.declared.Checked.TheVariants.{Taken}
 use Rattle.matrix.specs.Matrix.{Matrix, Merging, LegalMultiplicities, absent, given, Legal, LegalColumn, LegalColumns, none, one, head_bytes, multiplicity_bytes, column_bytes, columns_bytes, end_bytes, file_of, has_multiplicities, multiplicities_in, columns_at, column_at, columns_from, matrix_of}
 use Rattle.matrix.specs.Check.{head_passed, multiplicities_passed, column_passed, columns_passed, end_passed, checked}
 use Rattle.matrix.proofs.Multiplying.{has_kind, multiplicities_there, columns_there, multiplicities_none, columns_none, given_bytes, merging_taken}
 use Rattle.matrix.proofs.Judging.{column_taken, head_taken, all_passed}
+use Rattle.std.specs.Prelude.{Ok}
+use Rattle.matrix.specs.Check.{shape}
 
 abbrev cursor : ℕ → Cursor
 cursor at = record { at = at }
@@ -43,7 +43,7 @@ module _ {n : ℕ} (few : n ≤ 64) (file : List ℕ) where
         let (z, e₃) = field_read 8 c.zeros file rest (at + 4 + 10) {after = at + 22} (set_fits few l.zeros_known) e₂ (omega arith) in
         (λ i. record { weight = w i; ones = o i; zeros = z i }, e₃)
 
-    column_passed_lem : column_passed file (all n) (cursor at) ≡ At (cursor (at + 22))
+    column_passed_lem : column_passed file (all n) (cursor at) ≡ Ok (cursor (at + 22))
     unfolding column_passed
     column_passed_lem =
         let step_is = record_taken file payload rest at (record_of records.column) e (lit< tt) (lit< tt) (simp (length-append, length_bytes)) in
@@ -53,7 +53,7 @@ module _ {n : ℕ} (few : n ≤ 64) (file : List ℕ) where
 
   -- So are all of them.
   record Stand (cs : List Column) (at : ℕ) (rest : List ℕ) : Type 0 where
-    passed : columns_passed file (all n) (length cs) (cursor at) ≡ At (cursor (at + 22 * length cs))
+    passed : columns_passed file (all n) (length cs) (cursor at) ≡ Ok (cursor (at + 22 * length cs))
     held : columns_from file (length cs) at ≡ cs
     after : drop (at + 22 * length cs) file ≡ rest
 
@@ -87,7 +87,7 @@ module _ (file : List ℕ) where
   n_of = number_at 2 file 4
 
   record Stood (ms rest : List ℕ) : Type 0 where
-    passed : multiplicities_passed file n_of (cursor 8) ≡ At (cursor (columns_at file))
+    passed : multiplicities_passed file n_of (cursor 8) ≡ Ok (cursor (columns_at file))
     held : multiplicities_in file ≡ ms
     after : drop (columns_at file) file ≡ rest
 
@@ -136,7 +136,7 @@ module _ {M : Matrix} (legal : Legal M) where
       let (m-is, e') = field_read 2 m (file_of M) after_head 6 {after = 8} (omega (arith, legal.columns_fit)) e refl in
       (n-is, m-is, e')
 
-  head_is_passed : head_passed (file_of M) ≡ At (cursor 8)
+  head_is_passed : head_passed (file_of M) ≡ Ok (cursor 8)
   unfolding head_passed
   head_is_passed =
       let step_is = record_taken (file_of M) (bytes_of 2 n ++ bytes_of 2 m) after_head 0 (record_of records.matrix_head) head_stands (lit< tt) (lit< tt) (simp (length-append, length_bytes)) in
@@ -164,7 +164,7 @@ module _ {M : Matrix} (legal : Legal M) where
   end_stands : drop end (file_of M) ≡ end_bytes ++ []
   end_stands = columns_are.after ∙ sym (append-nil end_bytes)
 
-  end_is_passed : end_passed (file_of M) (cursor end) ≡ At (cursor (end + 4))
+  end_is_passed : end_passed (file_of M) (cursor end) ≡ Ok (cursor (end + 4))
   unfolding end_passed
   end_is_passed =
       let step_is = record_taken (file_of M) [] [] end (record_of records.matrix_end) end_stands (lit< tt) (lit< tt) refl in
@@ -172,7 +172,7 @@ module _ {M : Matrix} (legal : Legal M) where
       rw (← step_is, add-zero (end + 4)) (sym (none_after (file_of M) (cursor (end + 4)) (omega arith)))
 
   -- "The encoding of any content within the bounds is accepted .."
-  pub file_taken : Taken n m ≡ checked (file_of M)
+  pub file_taken : Ok (shape n m) ≡ checked (file_of M)
   file_taken =
       rw (numbers.0, numbers.1) at
       (all_passed (file_of M) head_is_passed multiplicities_are.passed (rw (numbers.0, numbers.1) columns_are.passed) end_is_passed)

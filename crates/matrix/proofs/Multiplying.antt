@@ -17,10 +17,11 @@ use Rattle.record.specs.Bytes.{number_at}
 use Rattle.record.specs.Records as records
 use Rattle.record.specs.Records.{refused, multiplicity_record, record_bytes}
 use Rattle.record.specs.declared.Cursor.{Cursor}
-use Rattle.record.specs.declared.Passed.TheVariants.{At, Refused}
 use Rattle.record.proofs.Passing.{neither, unless}
 use Rattle.matrix.specs.Matrix.{Matrix, Merging, LegalMultiplicities, absent, given, Legal, multiplicity_bytes, has_multiplicities, multiplicity_count, multiplicities_in, columns_at}
 use Rattle.matrix.specs.Check.{every, wrong, multiplicities_judged}
+use Rattle.std.specs.Prelude.{Ok, Err}
+use Rattle.record.specs.declared.refusal.Reason.TheVariants as reason
 
 -- A multiplicity of a list is the number there, whatever stands for one that is missing.
 pub at_multiplicity : (ms : List ℕ) (i d : ℕ) → i < length ms → multiplicity ms i ≡ get_or ms i d
@@ -77,25 +78,25 @@ module _ (ms : List ℕ) where
   each_one h = sum_≡ n h ∙ sum_one n
 
   module _ (place : ℕ) (next : Cursor) where
-    pub some_none : (i : ℕ) → i < n → multiplicity ms i ≡ 0 → Refused (refused 21 place) ≡ multiplicities_judged ms place next
+    pub some_none : (i : ℕ) → i < n → multiplicity ms i ≡ 0 → Err (refused reason.Multiplicities place) ≡ multiplicities_judged ms place next
     unfolding multiplicities_judged
     some_none i b e = rw (never (every (λ a. ltb 0 a) ms) (λ t. omega (arith, ltb-true 0 (multiplicity ms i) (every_at (λ a. ltb 0 a) ms t i b))))
 
     module _ (some : Some n) where
-      pub too_heavy : 127 < sum n (multiplicity ms) → Refused (refused 21 place) ≡ multiplicities_judged ms place next
+      pub too_heavy : 127 < sum n (multiplicity ms) → Err (refused reason.Multiplicities place) ≡ multiplicities_judged ms place next
       unfolding multiplicities_judged
       too_heavy h = rw (at_every (λ a. ltb 0 a) ms (λ i b. lt-ltb _ _ (some i b)), lt-ltb _ _ h)
 
-      pub all_one : sum n (multiplicity ms) ≤ 127 → sum n (multiplicity ms) ≡ n → Refused (refused 21 place) ≡ multiplicities_judged ms place next
+      pub all_one : sum n (multiplicity ms) ≤ 127 → sum n (multiplicity ms) ≡ n → Err (refused reason.Multiplicities place) ≡ multiplicities_judged ms place next
       unfolding multiplicities_judged
       all_one l e = rw (at_every (λ a. ltb 0 a) ms (λ i b. lt-ltb _ _ (some i b)), le-ltb _ _ l, at_every (λ a. eqb a 1) ms (λ i b. eq-eqb _ _ (one_each some e i b)))
 
-      pub multiplicities_taken : sum n (multiplicity ms) ≤ 127 → sum n (multiplicity ms) ≢ n → At next ≡ multiplicities_judged ms place next
+      pub multiplicities_taken : sum n (multiplicity ms) ≤ 127 → sum n (multiplicity ms) ≢ n → Ok next ≡ multiplicities_judged ms place next
       unfolding multiplicities_judged
       multiplicities_taken l ne =
           rw (at_every (λ a. ltb 0 a) ms (λ i b. lt-ltb _ _ (some i b)), le-ltb _ _ l, never (every (λ a. eqb a 1) ms) (λ t. ne (each_one (λ i b. eqb-true _ _ (every_at (λ a. eqb a 1) ms t i b)))))
 
-  pub judged_multiplicities : (place : ℕ) (c : Cursor) {next : Cursor} → At next ≡ multiplicities_judged ms place c → Merging n ms × (At next ≡ At c)
+  pub judged_multiplicities : (place : ℕ) (c : Cursor) {next : Cursor} → Ok next ≡ multiplicities_judged ms place c → Merging n ms × (Ok next ≡ Ok c)
   unfolding multiplicities_judged
   judged_multiplicities place c e =
       let (none, e') = unless (wrong ms) _ _ e in
@@ -162,7 +163,7 @@ given_bytes (a ∷ ms) e l = ap (λ (k : ℕ). record_bytes (multiplicity_record
 -- ---- legal ones
 
 -- They are taken.
-pub merging_taken : {n : ℕ} {ms : List ℕ} → Merging n ms → (place : ℕ) (next : Cursor) → At next ≡ multiplicities_judged ms place next
+pub merging_taken : {n : ℕ} {ms : List ℕ} → Merging n ms → (place : ℕ) (next : Cursor) → Ok next ≡ multiplicities_judged ms place next
 merging_taken {n} {ms} l place next =
     let few : sum (length ms) (multiplicity ms) ≤ 127 = rw l.one_each l.merged in
     let some : Some ms (length ms) = rw l.one_each l.positive in

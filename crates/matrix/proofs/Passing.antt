@@ -15,15 +15,15 @@ use Rattle.record.specs.Bytes.{number_at}
 use Rattle.record.specs.Records as records
 use Rattle.record.specs.Records.{record_of, multiplicity_record, step}
 use Rattle.record.specs.declared.Cursor.{Cursor}
-use Rattle.record.specs.declared.Passed.TheVariants.{At}
 use Rattle.record.proofs.Steps.{Held, held}
 use Rattle.record.proofs.Passing.{neither, unless, where_holds, through_step}
 use Rattle.matrix.specs.declared.Column.{Column}
 use Rattle.matrix.specs.Matrix.{Merging, has_multiplicities, column_at}
 use Rattle.matrix.specs.Check.{head_judged, head_passed, multiplicities_passed, column_judged, column_passed}
 use Rattle.matrix.proofs.Multiplying.{judged_multiplicities}
+use Rattle.std.specs.Prelude.{Ok}
 
-same_cursor : {a c : Cursor} → At a ≡ At c → c ≡ a
+same_cursor : {a c : Cursor} → Ok a ≡ Ok c → c ≡ a
 same_cursor e = cc
 
 pub record Head (file : List ℕ) (next : Cursor) : Type 0 where
@@ -32,7 +32,7 @@ pub record Head (file : List ℕ) (next : Cursor) : Type 0 where
   pub few : number_at 2 file 4 ≤ 64
   pub columns : number_at 2 file 6 ≤ 256
 
-judged_head : (n m : ℕ) (c : Cursor) {next : Cursor} → At next ≡ head_judged n m c → (0 < n) × (n ≤ 64) × (m ≤ 256) × (c ≡ next)
+judged_head : (n m : ℕ) (c : Cursor) {next : Cursor} → Ok next ≡ head_judged n m c → (0 < n) × (n ≤ 64) × (m ≤ 256) × (c ≡ next)
 unfolding head_judged
 judged_head n m c e =
     let (taxa, e') = unless (eqb n 0 || ltb 64 n) _ _ e in
@@ -40,7 +40,7 @@ judged_head n m c e =
     let (none, many) = neither (eqb n 0) (ltb 64 n) taxa in
     (omega (arith, eqb-false n 0 none), ltb-false 64 n many, ltb-false 256 m columns, same_cursor e'')
 
-pub head : (file : List ℕ) {next : Cursor} → At next ≡ head_passed file → Head file next
+pub head : (file : List ℕ) {next : Cursor} → Ok next ≡ head_passed file → Head file next
 unfolding head_passed
 head file {next} e =
     let (at, c, found, j) = through_step (step file 0 (record_of records.matrix_head)) e in
@@ -53,7 +53,7 @@ pub record There (file : List ℕ) (n at : ℕ) (next : Cursor) : Type 0 where
   pub stands : Held file at (multiplicity_record n) (at + 4) next
   pub merging : Merging n (take n (drop (at + 4) file))
 
-pub there : (file : List ℕ) (n : ℕ) (here : Cursor) {next : Cursor} → has_multiplicities file ≡ true → At next ≡ multiplicities_passed file n here → There file n here.at next
+pub there : (file : List ℕ) (n : ℕ) (here : Cursor) {next : Cursor} → has_multiplicities file ≡ true → Ok next ≡ multiplicities_passed file n here → There file n here.at next
 unfolding multiplicities_passed
 there file n here {next} is e =
     let (at, c, found, j) = through_step (step file here.at (multiplicity_record n)) (rw is at e) in
@@ -67,7 +67,7 @@ there file n here {next} is e =
     }
 
 -- None: the cursor stays.
-pub not_there : (file : List ℕ) (n : ℕ) (here : Cursor) {next : Cursor} → has_multiplicities file ≡ false → At next ≡ multiplicities_passed file n here → here ≡ next
+pub not_there : (file : List ℕ) (n : ℕ) (here : Cursor) {next : Cursor} → has_multiplicities file ≡ false → Ok next ≡ multiplicities_passed file n here → here ≡ next
 unfolding multiplicities_passed
 not_there file n here is e = same_cursor (rw is at e)
 
@@ -78,7 +78,7 @@ pub record Passing (file : List ℕ) (known at : ℕ) (next : Cursor) : Type 0 w
   pub zeros_known : (column_at file (at + 4)).zeros ⊆ known
   pub apart : (column_at file (at + 4)).ones ∩ (column_at file (at + 4)).zeros ≡ 0
 
-judged_column : (known place : ℕ) (it : Column) (c : Cursor) {next : Cursor} → At next ≡ column_judged known place it c
+judged_column : (known place : ℕ) (it : Column) (c : Cursor) {next : Cursor} → Ok next ≡ column_judged known place it c
     → (it.weight ≢ 0) × (it.ones ⊆ known) × (it.zeros ⊆ known) × (it.ones ∩ it.zeros ≡ 0) × (c ≡ next)
 unfolding column_judged
 judged_column known place it c e =
@@ -88,7 +88,7 @@ judged_column known place it c e =
     let (ones, zeros) = (and-eq-true_iff (within it.ones known) (within it.zeros known)).0 sets in
     (eqb-false _ _ weight, (within_⊆ _ _).0 ones, (within_⊆ _ _).0 zeros, eqb-true _ _ apart, same_cursor e''')
 
-pub passing : (file : List ℕ) (known : ℕ) (here : Cursor) {next : Cursor} → At next ≡ column_passed file known here → Passing file known here.at next
+pub passing : (file : List ℕ) (known : ℕ) (here : Cursor) {next : Cursor} → Ok next ≡ column_passed file known here → Passing file known here.at next
 unfolding column_passed
 passing file known here {next} e =
     let (at, c, found, j) = through_step (step file here.at (record_of records.column)) e in

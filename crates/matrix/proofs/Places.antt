@@ -8,20 +8,19 @@ use lib.Dec.{ltb, eqb, lit<, lit≤}
 use lib.ListN.{take, drop}
 use Rattle.taxa.specs.Sets.{◌∩◌, within, all}
 use Rattle.record.specs.Bytes.{number_at}
-use Rattle.record.specs.Records.{record_of, multiplicity_record, left, judged, nothing_after, step}
+use Rattle.record.specs.Records.{record_of, multiplicity_record, left, judged, nothing_after, step, Passed}
 use Rattle.record.specs.Records as records
 use Rattle.record.specs.declared.Cursor.{Cursor}
 use Rattle.record.specs.declared.Record.{Record}
-use Rattle.record.specs.declared.Refusal.{Refusal}
-use Rattle.record.specs.declared.Passed.{Passed}
-use Rattle.record.specs.declared.Passed.TheVariants.{At, Refused}
+use Rattle.record.specs.declared.refusal.Refusal.{Refusal}
 use Rattle.record.proofs.Steps.{either_way}
 use Rattle.record.proofs.Places.{By, by_later, by_onward, by_step}
 use Rattle.matrix.proofs.Passing.{head}
 use Rattle.matrix.specs.Matrix.{has_multiplicities, column_at}
-use Rattle.matrix.specs.declared.Checked.{Checked}
-use Rattle.matrix.specs.declared.Checked.TheVariants as checks
 use Rattle.matrix.specs.Check.{head_judged, head_passed, wrong, multiplicities_judged, multiplicities_passed, column_judged, column_passed, columns_passed, end_passed, body_passed, file_passed, answered, checked}
+use Rattle.std.specs.Prelude.{Result, Ok, Err}
+use Rattle.record.specs.Refusals.{refusal_number}
+use Rattle.matrix.specs.declared.Shape.{Shape}
 
 -- The check's numbers.
 abbrev Number : ℕ → Type 0
@@ -97,14 +96,14 @@ module _ (file : List ℕ) where
       let near : end.at ≤ first.at + 22 * m = rw (← c) at (columns_by known m first) in
       by_later Number (end.at + 4) largest (omega arith) (end_passed file end) (end_by end))))
 
-  abbrev Small : Checked → Type 0
-  Small (checks.Taken n m) = Unit {0}
-  Small (checks.Refused why) = (why.place ≤ largest) × (0 < why.number) × (why.number ≤ 21) × (8 < why.number → why.number ≡ 21)
+  abbrev Small : Result Shape Refusal → Type 0
+  Small (Ok it) = Unit {0}
+  Small (Err why) = (why.place ≤ largest) × (0 < (refusal_number why.reason)) × ((refusal_number why.reason) ≤ 21) × (8 < (refusal_number why.reason) → (refusal_number why.reason) ≡ 21)
 
   small : (n m : ℕ) (p : Passed) → By Number largest p → Small (answered n m p)
-  small n m (At here) b = tt
-  small n m (Refused why) b = (b.0, b.1.0, b.1.1, b.1.2)
+  small n m (Ok here) b = tt
+  small n m (Err why) b = (b.0, b.1.0, b.1.1, b.1.2)
 
-  pub refusal_small : {why : Refusal} → checks.Refused why ≡ checked file → (why.place ≤ largest) × (0 < why.number) × (why.number ≤ 21) × (8 < why.number → why.number ≡ 21)
+  pub refusal_small : {why : Refusal} → Err why ≡ checked file → (why.place ≤ largest) × (0 < (refusal_number why.reason)) × ((refusal_number why.reason) ≤ 21) × (8 < (refusal_number why.reason) → (refusal_number why.reason) ≡ 21)
   unfolding checked
   refusal_small e = rw (← e) at (small (number_at 2 file 4) (number_at 2 file 6) (file_passed file) all_by)

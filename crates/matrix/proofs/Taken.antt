@@ -13,20 +13,19 @@ use lib.Dec.{ltb}
 use Rattle.taxa.specs.Sets.{all}
 use Rattle.record.specs.Bytes.{number_at, bytes_of, File}
 use Rattle.record.specs.Records as records
-use Rattle.record.specs.Records.{record_of, left, step, nothing_after}
+use Rattle.record.specs.Records.{record_of, left, step, nothing_after, Passed}
 use Rattle.record.specs.declared.Cursor.{Cursor}
-use Rattle.record.specs.declared.Passed.{Passed}
-use Rattle.record.specs.declared.Passed.TheVariants.{At, Refused}
 use Rattle.record.proofs.Numbers.{at_lt, read_then}
 use Rattle.record.proofs.Steps.{Held, held, record_bytes_lem}
 use Rattle.record.proofs.Passing.{unless, through_step, through}
-use Rattle.matrix.specs.declared.Checked.TheVariants.{Taken}
 use Rattle.matrix.specs.declared.Column.{Column}
 use Rattle.matrix.specs.Matrix.{Legal, LegalMultiplicities, absent, given, LegalColumn, LegalColumns, none, one, head_bytes, multiplicity_bytes, column_bytes, columns_bytes, end_bytes, file_of, has_multiplicities, multiplicities_in, columns_at, column_at, column_in, columns_from, matrix_of}
 use Rattle.matrix.specs.inner.Planes.{Multiplied}
 use Rattle.matrix.specs.Check.{head_passed, multiplicities_passed, column_passed, columns_passed, end_passed, file_passed, answered, checked}
 use Rattle.matrix.proofs.Passing.{Head, head, There, there, not_there, Passing, passing}
 use Rattle.matrix.proofs.Multiplying.{multiplicities_there, columns_there, multiplicities_none, columns_none, before_columns, given_bytes, legal_fit}
+use Rattle.std.specs.Prelude.{Ok, Err}
+use Rattle.matrix.specs.Check.{shape}
 
 module _ {file : List ℕ} (f : File file) where
   -- ---- the records that were passed stand in the file
@@ -78,7 +77,7 @@ module _ {file : List ℕ} (f : File file) where
   without_them is e =
       record { moves = e ∙ sym (columns_none file is); stand = rw (multiplicities_none file is, columns_none file is); legal = rw (multiplicities_none file is) absent }
 
-  multiplicities : {here next : Cursor} → Head file here → At next ≡ multiplicities_passed file taxa_count here → Multiplying next
+  multiplicities : {here next : Cursor} → Head file here → Ok next ≡ multiplicities_passed file taxa_count here → Multiplying next
   multiplicities {here} {next} h e = go (has_multiplicities file) refl
     where
       go : (b : Bool) → has_multiplicities file ≡ b → Multiplying next
@@ -111,7 +110,7 @@ module _ {file : List ℕ} (f : File file) where
         legal = one (column_legal p) r.legal;
       }
 
-  columns : (n m : ℕ) (here : Cursor) {end : Cursor} → At end ≡ columns_passed file (all n) m here → Columns n m here.at end
+  columns : (n m : ℕ) (here : Cursor) {end : Cursor} → Ok end ≡ columns_passed file (all n) m here → Columns n m here.at end
   unfolding columns_passed
   columns n zero here {end} e = subst (λ (c : Cursor). Columns n 0 here.at c) (cc) (no_columns n here)
   columns n (suc m) here {end} e =
@@ -125,7 +124,7 @@ module _ {file : List ℕ} (f : File file) where
     stands : drop at file ≡ end_bytes
     length_is : length file ≡ at + 4
 
-  ended : (here : Cursor) {last : Cursor} → At last ≡ end_passed file here → End here.at
+  ended : (here : Cursor) {last : Cursor} → Ok last ≡ end_passed file here → End here.at
   unfolding end_passed nothing_after
   ended here e =
       let (at, c, found, j) = through_step (step file here.at (record_of records.matrix_end)) e in
@@ -149,19 +148,19 @@ module _ {file : List ℕ} (f : File file) where
     columns_read : Columns taxa_count column_count (columns_at file) end
     end_read : End (columns_at file + 22 * column_count)
 
-  gather : {second first end last : Cursor} → At second ≡ head_passed file → At first ≡ multiplicities_passed file taxa_count second
-      → At end ≡ columns_passed file (all taxa_count) column_count first → At last ≡ end_passed file end → Readings
+  gather : {second first end last : Cursor} → Ok second ≡ head_passed file → Ok first ≡ multiplicities_passed file taxa_count second
+      → Ok end ≡ columns_passed file (all taxa_count) column_count first → Ok last ≡ end_passed file end → Readings
   gather {second} {first} {end} h m c e =
       let hd = head file h in
       let ms = multiplicities hd m in
       let cols = subst (λ (at : ℕ). Columns taxa_count column_count at end) ms.moves (columns taxa_count column_count first c) in
       record { second = second; first = first; end = end; head_read = hd; multiplicities_read = ms; columns_read = cols; end_read = rw cols.moves at (ended end e) }
 
-  all_read : {n m : ℕ} (p : Passed) → Taken n m ≡ answered taxa_count column_count p → (last : Cursor) × (At last ≡ p) × (taxa_count ≡ n) × (column_count ≡ m)
-  all_read (At last) e = (last, refl, cc, cc)
-  all_read (Refused why) e = absurd (let z : ◌≡◌ {A = ℕ} 0 1 = cc in omega arith)
+  all_read : {n m : ℕ} (p : Passed) → Ok (shape n m) ≡ answered taxa_count column_count p → (last : Cursor) × (Ok last ≡ p) × (taxa_count ≡ n) × (column_count ≡ m)
+  all_read (Ok last) e = (last, refl, cc, cc)
+  all_read (Err why) e = absurd (let z : ◌≡◌ {A = ℕ} 0 1 = cc in omega arith)
 
-  readings : {n m : ℕ} → Taken n m ≡ checked file → Readings × (taxa_count ≡ n) × (column_count ≡ m)
+  readings : {n m : ℕ} → Ok (shape n m) ≡ checked file → Readings × (taxa_count ≡ n) × (column_count ≡ m)
   unfolding checked file_passed
   readings e =
       let (last, passed, n-is, m-is) = all_read (file_passed file) e in
@@ -192,7 +191,7 @@ legal_at none c d b = absurd (omega arith)
 legal_at (one l ls) zero d b = l
 legal_at (one l ls) (suc c) d b = legal_at ls c d (omega arith)
 
-module _ {file : List ℕ} (f : File file) {n m : ℕ} (taken : Taken n m ≡ checked file) where
+module _ {file : List ℕ} (f : File file) {n m : ℕ} (taken : Ok (shape n m) ≡ checked file) where
   -- "12 + 22m bytes", and 4 + n more with multiplicities.
   pub taken_length : length file ≡ columns_at file + 22 * m + 4
   taken_length = let (r, n-is, m-is) = readings f taken in omega (arith, r.end_read.length_is)
@@ -241,6 +240,6 @@ module _ {file : List ℕ} (f : File file) {n m : ℕ} (taken : Taken n m ≡ ch
       ∙ ap (◌++◌ (multiplicity_bytes (multiplicities_in file))) (r.columns_read.stand ∙ ap (◌++◌ (columns_bytes from)) r.end_read.stands)))
 
 -- No two accepted files carry the same matrix.
-pub same_matrix_same_file : {file file' : List ℕ} {n m n' m' : ℕ} → File file → File file' → Taken n m ≡ checked file → Taken n' m' ≡ checked file'
+pub same_matrix_same_file : {file file' : List ℕ} {n m n' m' : ℕ} → File file → File file' → Ok (shape n m) ≡ checked file → Ok (shape n' m') ≡ checked file'
     → matrix_of file ≡ matrix_of file' → file ≡ file'
 same_matrix_same_file f f' t t' e = taken_is_file f t ∙ ap file_of e ∙ sym (taken_is_file f' t')

@@ -9,14 +9,13 @@ use Rattle.grammar.specs.Columns.{Bytes}
 use Rattle.record.specs.Records as records
 use Rattle.record.specs.Records.{finds}
 use Rattle.record.specs.declared.Cursor.{Cursor}
-use Rattle.record.specs.declared.Refusal.{Refusal}
-use Rattle.record.specs.declared.Passed.TheVariants.{At, Refused}
-use Rattle.names.specs.declared.Listed.TheVariants as answer
+use Rattle.record.specs.declared.refusal.Refusal.{Refusal}
 use Rattle.names.specs.inner.Places.{after, names_from, place_from}
 use Rattle.names.specs.Check.{name_passed, end_passed, listed_from, listed, checked}
 use Rattle.names.proofs.Walking.{names_more, place_more, length_names}
 use Rattle.names.proofs.Passing.{passing}
 use Rattle.names.proofs.Turns.{listed_step}
+use Rattle.std.specs.Prelude.{Ok, Err}
 
 -- After `count` names the file comes to what is left to read after them.
 pub record Reached (file : List ℕ) (here : Cursor) (count : ℕ) : Type 0 where
@@ -33,7 +32,7 @@ module _ {file : List ℕ} {here : Cursor} {count : ℕ} (r : Reached file here 
   before = names_from file count 0
 
   module _ (found : finds file here.at records.name ≡ true) where
-    pub gone_on : {next : Cursor} → At next ≡ name_passed file before here → Reached file next (count + 1)
+    pub gone_on : {next : Cursor} → Ok next ≡ name_passed file before here → Reached file next (count + 1)
     gone_on {next} e =
         let p = passing file before here e in
         record {
@@ -42,15 +41,15 @@ module _ {file : List ℕ} {here : Cursor} {count : ℕ} (r : Reached file here 
           comes = r.comes ∙ listed_step file before here ∙ rw (found, ← e, names_more file count 0, ← r.follows);
         }
 
-    pub name_stops : {why : Refusal} → Refused why ≡ name_passed file before here → answer.Refused why ≡ checked file
+    pub name_stops : {why : Refusal} → Err why ≡ name_passed file before here → Err why ≡ checked file
     unfolding checked
     name_stops e = rw (r.comes ∙ listed_step file before here, found, ← e)
 
   module _ (other : finds file here.at records.name ≡ false) where
-    pub end_stops : {why : Refusal} → Refused why ≡ end_passed file here → answer.Refused why ≡ checked file
+    pub end_stops : {why : Refusal} → Err why ≡ end_passed file here → Err why ≡ checked file
     unfolding checked
     end_stops e = rw (r.comes ∙ listed_step file before here, other, ← e)
 
-    pub all_passed : {last : Cursor} → At last ≡ end_passed file here → answer.Taken count ≡ checked file
+    pub all_passed : {last : Cursor} → Ok last ≡ end_passed file here → Ok count ≡ checked file
     unfolding checked
     all_passed e = rw (r.comes ∙ listed_step file before here, other, ← e, length_names)

@@ -16,19 +16,18 @@ use Rattle.record.specs.Bytes.{number_at, File}
 use Rattle.record.specs.Records as records
 use Rattle.record.specs.Records.{record_of, finds, varying_step}
 use Rattle.record.specs.declared.Cursor.{Cursor}
-use Rattle.record.specs.declared.Passed.TheVariants.{At}
 use Rattle.record.specs.declared.Step.TheVariants.{Payload}
 use Rattle.record.proofs.Numbers.{past}
 use Rattle.record.proofs.Files.{no_bytes, one_more, join, record_file}
 use Rattle.record.proofs.Steps.{held, content_stands, record_taken, finds_kind, none_after}
 use Rattle.record.proofs.Lengths.{is_allowed, varying_taken, varying_held}
-use Rattle.names.specs.declared.Listed.TheVariants.{Taken}
 use Rattle.names.specs.Names.{LegalName, Legal, name_record, name_bytes, end_bytes, names_bytes, list_of, name_at}
 use Rattle.names.specs.Check.{any_name, names, name_passed, end_passed, listed_from, listed, checked}
 use Rattle.names.proofs.Spelling.{marked_letter, letter_small, name_some, name_spelt}
 use Rattle.names.proofs.Lists.{list_none, list_first}
 use Rattle.names.proofs.Judging.{name_taken, name_read}
 use Rattle.names.proofs.Turns.{listed_step}
+use Rattle.std.specs.Prelude.{Ok}
 
 abbrev cursor : ℕ → Cursor
 cursor at = record { at = at }
@@ -54,7 +53,7 @@ module _ (file : List ℕ) where
     finds_name : finds file at records.name ≡ true
     finds_name = let h = (varying_held any_name step_is).1 in sym (finds_kind file at records.name (omega arith)) ∙ eq-eqb _ _ h.kind
 
-    name_passed_lem : (before : List Bytes) → is_in n before ≡ false → name_passed file before (cursor at) ≡ At (cursor (at + 4 + length n))
+    name_passed_lem : (before : List Bytes) → is_in n before ≡ false → name_passed file before (cursor at) ≡ Ok (cursor (at + 4 + length n))
     name_passed_lem before new =
         sym (name_taken before (name_at file at) at (cursor (at + 4 + length n)) (rw name_is (name_spelt l.spelt)) (rw name_is new)
         ∙ name_read file before (cursor at) (at + 4) step_is)
@@ -72,7 +71,7 @@ module _ (file : List ℕ) where
         let h = held end_step in
         sym (finds_kind file at records.name (omega arith)) ∙ ne_eqb (number_at 2 file (at + 2)) records.name (λ k. omega (arith, h.kind))
 
-    end_passed_lem : end_passed file (cursor at) ≡ At (cursor (at + 4))
+    end_passed_lem : end_passed file (cursor at) ≡ Ok (cursor (at + 4))
     unfolding end_passed
     end_passed_lem =
         let nothing_left = sym (length-drop (at + 4) file) ∙ ap length (content_stands file [] [] at (record_of records.names_end) end_stands) in
@@ -98,7 +97,7 @@ module _ {ns : List Bytes} (legal : Legal ns) where
   list_taken = sym (list_stands (list_of ns) [] ns 0 legal.names legal.distinct refl)
 
   -- The check answers how many there are.
-  pub list_checked : Taken (length ns) ≡ checked (list_of ns)
+  pub list_checked : Ok (length ns) ≡ checked (list_of ns)
   unfolding checked
   list_checked = rw (← list_taken)
 

@@ -7,27 +7,28 @@ use Rattle.grammar.specs.Columns.{Bytes}
 use Rattle.grammar.specs.Limits.{is_in}
 use Rattle.record.specs.Records.{refused, varying_step}
 use Rattle.record.specs.declared.Cursor.{Cursor}
-use Rattle.record.specs.declared.Refusal.{Refusal}
+use Rattle.record.specs.declared.refusal.Refusal.{Refusal}
 use Rattle.record.specs.declared.Step.TheVariants as step
-use Rattle.record.specs.declared.Passed.TheVariants.{At, Refused}
 use Rattle.names.specs.Names.{name_at}
 use Rattle.names.specs.Check.{any_name, spelt, name_judged, name_passed}
+use Rattle.std.specs.Prelude.{Ok, Err}
+use Rattle.record.specs.declared.refusal.Reason.TheVariants as reason
 
 module _ (before : List Bytes) (n : Bytes) (place : ℕ) (next : Cursor) where
-  pub wrong_byte : spelt n ≡ false → Refused (refused 16 place) ≡ name_judged before n place next
+  pub wrong_byte : spelt n ≡ false → Err (refused reason.Misfit place) ≡ name_judged before n place next
   unfolding name_judged
   wrong_byte s = rw s
 
-  pub repeated : spelt n ≡ true → is_in n before ≡ true → Refused (refused 18 place) ≡ name_judged before n place next
+  pub repeated : spelt n ≡ true → is_in n before ≡ true → Err (refused reason.Repeated place) ≡ name_judged before n place next
   unfolding name_judged
   repeated s i = rw (s, i)
 
-  pub name_taken : spelt n ≡ true → is_in n before ≡ false → At next ≡ name_judged before n place next
+  pub name_taken : spelt n ≡ true → is_in n before ≡ false → Ok next ≡ name_judged before n place next
   unfolding name_judged
   name_taken s i = rw (s, i)
 
 module _ (file : List ℕ) (before : List Bytes) (here : Cursor) where
-  pub name_refused : {why : Refusal} → step.Refused why ≡ varying_step file here.at any_name → Refused why ≡ name_passed file before here
+  pub name_refused : {why : Refusal} → step.Refused why ≡ varying_step file here.at any_name → Err why ≡ name_passed file before here
   unfolding name_passed
   name_refused e = rw (← e)
 

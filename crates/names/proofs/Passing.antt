@@ -14,13 +14,13 @@ use Rattle.record.specs.Bytes.{number_at}
 use Rattle.record.specs.Records as records
 use Rattle.record.specs.Records.{record_of, left, step, varying_step, nothing_after}
 use Rattle.record.specs.declared.Cursor.{Cursor}
-use Rattle.record.specs.declared.Passed.TheVariants.{At}
 use Rattle.record.proofs.Steps.{Held, held}
 use Rattle.record.proofs.Lengths.{sized, allowed_is, varying_held}
 use Rattle.record.proofs.Passing.{unless, where_holds, through_step}
 use Rattle.names.specs.Names.{name_at}
 use Rattle.names.specs.inner.Places.{after}
 use Rattle.names.specs.Check.{any_name, spelt, name_judged, name_passed, end_passed}
+use Rattle.std.specs.Prelude.{Ok}
 
 -- The record of a name, 1 to 32 long, with no wrong byte and no repeat.
 pub record Passing (file : List ℕ) (before : List Bytes) (at : ℕ) (next : Cursor) : Type 0 where
@@ -30,10 +30,10 @@ pub record Passing (file : List ℕ) (before : List Bytes) (at : ℕ) (next : Cu
   pub letters : spelt (name_at file at) ≡ true
   pub new : is_in (name_at file at) before ≡ false
 
-same_cursor : {a c : Cursor} → At a ≡ At c → c ≡ a
+same_cursor : {a c : Cursor} → Ok a ≡ Ok c → c ≡ a
 same_cursor e = cc
 
-judged_name : (before : List Bytes) (n : Bytes) (place : ℕ) (c : Cursor) {next : Cursor} → At next ≡ name_judged before n place c
+judged_name : (before : List Bytes) (n : Bytes) (place : ℕ) (c : Cursor) {next : Cursor} → Ok next ≡ name_judged before n place c
     → (spelt n ≡ true) × (is_in n before ≡ false) × (c ≡ next)
 unfolding name_judged
 judged_name before n place c e =
@@ -41,7 +41,7 @@ judged_name before n place c e =
     let (new, e'') = unless (is_in n before) _ _ e' in
     (letters, new, same_cursor e'')
 
-pub passing : (file : List ℕ) (before : List Bytes) (here : Cursor) {next : Cursor} → At next ≡ name_passed file before here
+pub passing : (file : List ℕ) (before : List Bytes) (here : Cursor) {next : Cursor} → Ok next ≡ name_passed file before here
     → Passing file before here.at next
 unfolding name_passed
 passing file before here {next} e =
@@ -69,7 +69,7 @@ pub record Ending (file : List ℕ) (at : ℕ) : Type 0 where
   pub stands : Held file at (record_of records.names_end) (at + 4) next
   pub last : length file ≤ at + 4
 
-pub ending : (file : List ℕ) (here : Cursor) {last : Cursor} → At last ≡ end_passed file here → Ending file here.at
+pub ending : (file : List ℕ) (here : Cursor) {last : Cursor} → Ok last ≡ end_passed file here → Ending file here.at
 unfolding end_passed nothing_after
 ending file here e =
     let (at, c, found, j) = through_step (step file here.at (record_of records.names_end)) e in

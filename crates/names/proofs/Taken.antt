@@ -13,18 +13,16 @@ use Rattle.grammar.specs.Limits.{Distinct, end}
 use Rattle.grammar.specs.Limits as limits
 use Rattle.record.specs.Bytes.{number_at, File}
 use Rattle.record.specs.Records as records
-use Rattle.record.specs.Records.{finds, left}
+use Rattle.record.specs.Records.{finds, left, Passed}
 use Rattle.record.specs.declared.Cursor.{Cursor}
-use Rattle.record.specs.declared.Passed.{Passed}
-use Rattle.record.specs.declared.Passed.TheVariants.{At, Refused}
 use Rattle.record.proofs.Steps.{record_bytes_lem}
-use Rattle.names.specs.declared.Listed.TheVariants.{Taken}
 use Rattle.names.specs.Names.{LegalName, Legal, name_bytes, end_bytes, list_of, name_at}
 use Rattle.names.specs.inner.Places.{after, place_from}
 use Rattle.names.specs.Check.{Listing, names, refusal, name_passed, end_passed, ended, goes_on, listed_in, listed, names_of, names_in, counted, checked}
 use Rattle.names.proofs.Spelling.{spelt_name}
 use Rattle.names.proofs.Lists.{list_none, list_first}
 use Rattle.names.proofs.Passing.{Passing, passing, length_name, Ending, ending}
+use Rattle.std.specs.Prelude.{Ok, Err}
 
 -- ---- the records that were passed
 
@@ -37,13 +35,13 @@ data Reading (file : List ℕ) : List Bytes → ℕ → List Bytes → Type 0 wh
 never : {ns : List Bytes} {why : _} → names ns ≡ refusal why → ⊥
 never e = let z : ◌≡◌ {A = ℕ} 0 1 = cc in omega arith
 
-through_name : {ns : List Bytes} (p : Passed) {go : Cursor → Listing} → names ns ≡ goes_on p go → (c : Cursor) × (At c ≡ p) × (names ns ≡ go c)
-through_name (At c) e = (c, refl, e)
-through_name (Refused why) e = absurd (never e)
+through_name : {ns : List Bytes} (p : Passed) {go : Cursor → Listing} → names ns ≡ goes_on p go → (c : Cursor) × (Ok c ≡ p) × (names ns ≡ go c)
+through_name (Ok c) e = (c, refl, e)
+through_name (Err why) e = absurd (never e)
 
-through_end : {ns before : List Bytes} (p : Passed) → names ns ≡ ended before p → (c : Cursor) × (At c ≡ p) × (ns ≡ before)
-through_end (At c) e = (c, refl, cc)
-through_end (Refused why) e = absurd (never e)
+through_end : {ns before : List Bytes} (p : Passed) → names ns ≡ ended before p → (c : Cursor) × (Ok c ≡ p) × (ns ≡ before)
+through_end (Ok c) e = (c, refl, cc)
+through_end (Err why) e = absurd (never e)
 
 module _ (file : List ℕ) where
   -- What follows the names `before`.
@@ -51,7 +49,7 @@ module _ (file : List ℕ) where
   Rest ns before at = (ms : List Bytes) × (ns ≡ before ++ ms) × Reading file before at ms
 
   -- A name before them.
-  named : {ns before : List Bytes} (here c : Cursor) → At c ≡ name_passed file before here → Rest ns (before ++ name_at file here.at ∷ []) c.at
+  named : {ns before : List Bytes} (here c : Cursor) → Ok c ≡ name_passed file before here → Rest ns (before ++ name_at file here.at ∷ []) c.at
       → Rest ns before here.at
   named {before = before} here c p (ms, e, r) =
       let it = passing file before here p in
@@ -145,12 +143,12 @@ same_names_same_file {file} {file'} f f' t t' = taken_is_file file t f ∙ sym (
 
 -- ---- the answer of the check
 
-counted_is : {k : ℕ} (l : Listing) → Taken k ≡ counted l → (names (names_of l) ≡ l) × (length (names_of l) ≡ k)
+counted_is : {k : ℕ} (l : Listing) → Ok k ≡ counted l → (names (names_of l) ≡ l) × (length (names_of l) ≡ k)
 counted_is (names ns) e = (refl, cc)
 counted_is (refusal why) e = absurd (let z : ◌≡◌ {A = ℕ} 0 1 = cc in omega arith)
 
 -- Where it takes a file, that has these names, as many as it says.
-pub taken_count : (file : List ℕ) {k : ℕ} → Taken k ≡ checked file → (names (names_in file) ≡ listed file) × (length (names_in file) ≡ k)
+pub taken_count : (file : List ℕ) {k : ℕ} → Ok k ≡ checked file → (names (names_in file) ≡ listed file) × (length (names_in file) ≡ k)
 unfolding checked
 taken_count file e = counted_is (listed file) e
 

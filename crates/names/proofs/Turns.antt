@@ -6,28 +6,28 @@ use Prim.Native.Nat.{ℕ, zero, suc, ◌≤◌, ◌<◌}
 use native.Mathlib.Omega.{arith}
 use Rattle.grammar.specs.Columns.{Bytes}
 use Rattle.record.specs.Records as records
-use Rattle.record.specs.Records.{record_of, refused, left, finds}
+use Rattle.record.specs.Records.{record_of, refused, left, finds, Passed}
 use Rattle.record.specs.declared.Cursor.{Cursor}
-use Rattle.record.specs.declared.Passed.{Passed}
-use Rattle.record.specs.declared.Passed.TheVariants.{At, Refused}
 use Rattle.record.proofs.Steps.{no_opening, finds_none}
 use Rattle.names.specs.Names.{name_at}
 use Rattle.names.specs.Check.{Listing, refusal, name_passed, end_passed, ended, goes_on, record_listed, listed_in, listed_from}
 use Rattle.names.proofs.Passing.{passing}
+use Rattle.std.specs.Prelude.{Ok, Err}
+use Rattle.record.specs.declared.refusal.Reason.TheVariants as reason
 
 -- Readings that go on alike from where a name was passed.
-goes_alike : (p : Passed) {f g : Cursor → Listing} → ((c : Cursor) → At c ≡ p → f c ≡ g c) → goes_on p f ≡ goes_on p g
-goes_alike (At c) h = h c refl
-goes_alike (Refused why) h = refl
+goes_alike : (p : Passed) {f g : Cursor → Listing} → ((c : Cursor) → Ok c ≡ p → f c ≡ g c) → goes_on p f ≡ goes_on p g
+goes_alike (Ok c) h = h c refl
+goes_alike (Err why) h = refl
 
 module _ (file : List ℕ) where
   -- With no byte left the end record is missing.
-  no_end : (here : Cursor) → left file here.at ≤ 0 → Refused (refused 1 here.at) ≡ end_passed file here
+  no_end : (here : Cursor) → left file here.at ≤ 0 → Err (refused reason.CutShort here.at) ≡ end_passed file here
   unfolding end_passed
   no_end here h = rw (← no_opening file here.at (record_of records.names_end) (omega arith))
 
   none_left : (before : List Bytes) (here : Cursor) (go : List Bytes → Cursor → Listing) → left file here.at ≤ 0
-      → refusal (refused 1 here.at) ≡ record_listed file before here go
+      → refusal (refused reason.CutShort here.at) ≡ record_listed file before here go
   none_left before here go h = rw (← finds_none file here.at records.name (omega arith), ← no_end here h)
 
   -- After a name fewer bytes are left.

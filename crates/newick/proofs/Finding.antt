@@ -24,13 +24,15 @@ use Rattle.matrix.proofs.Writing.{weighing_map, length_weighing, length_file}
 use Rattle.names.specs.Names.{list_of, list_length}
 use Rattle.names.proofs.Lists.{length_list}
 use Rattle.newick.specs.declared.Reading.{Reading}
-use Rattle.newick.specs.declared.Derived.{Derived}
-use Rattle.newick.specs.declared.Derived.TheVariants.{Taken, Refused}
 use Rattle.newick.specs.Read.{matrix_file, name_list, answered, read, output_after, returned, Reads}
 use Rattle.newick.specs.inner.Names.{names_in}
 use Rattle.newick.specs.inner.Book.{Book, ledger_in, Holds}
 use Rattle.newick.specs.inner.Found.{Found}
 use Rattle.newick.proofs.Names.{length_names}
+use Rattle.std.specs.Prelude.{Result, Ok, Err}
+use Rattle.record.specs.declared.refusal.Refusal.{Refusal}
+use Rattle.record.specs.declared.refusal.Reason.TheVariants as reason
+use Rattle.newick.specs.declared.Derived.{Derived}
 
 -- A text that is accepted.
 pub found : {text : List ℕ} {k : Book} {r : Reading} {ts : Trees} → Holds text k r → ledger.outcome text ≡ accepted ts (ledger_in text k r)
@@ -52,15 +54,15 @@ found {text} {k} {r} {ts} h e =
 
 -- A text that is refused.
 pub told : (text matrix names : List ℕ) {number place : ℕ} → ledger.outcome text ≡ refused number place
-    → Reads text matrix names (Refused (records.refused number place)) matrix names
+    → Reads text matrix names (Err (records.refused number place)) matrix names
 unfolding read answered output_after
 told text matrix names e =
     let f = ledger_refused text e in
     record { answers = rw f; numbers = rw f; matrix_output = refl; names_output = refl }
 
 -- An output is "shorter than what goes into it".
-abbrev no_room : Derived
-no_room = Refused (records.refused 10 0)
+abbrev no_room : Result Derived Refusal
+no_room = Err (records.refused reason.Room 0)
 
 module _ {text starts sizes ones zeros : List ℕ} {n m : ℕ} (g : Found text starts sizes ones zeros n m) where
   abbrev names_found : List Bytes
@@ -89,8 +91,8 @@ module _ {text starts sizes ones zeros : List ℕ} {n m : ℕ} (g : Found text s
   list_size : length (name_list (outcome text)) ≡ list_length names_found
   list_size = rw (list_found, length_list names_found)
 
-  abbrev lengths_found : Derived
-  lengths_found = Taken (12 + 22 * m) (list_length names_found)
+  abbrev lengths_found : Result Derived Refusal
+  lengths_found = Ok (record { matrix = 12 + 22 * m; names = list_length names_found })
 
   module _ (matrix names : List ℕ) where
     read_found : read text (length matrix) (length names)

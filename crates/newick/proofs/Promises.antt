@@ -24,23 +24,24 @@ use Rattle.grammar.proofs.Faults as faults
 use Rattle.ledger.proofs.Sets.{in_list}
 use Rattle.matrix.specs.Matrix.{Matrix, matrix_of, file_of, column_in}
 use Rattle.matrix.specs.Check.{checked}
-use Rattle.matrix.specs.declared.Checked.TheVariants as checks
 use Rattle.matrix.proofs.Encoding.{file_taken, file_holds}
 use Rattle.matrix.proofs.Taken.{column_of_lem}
 use Rattle.matrix.proofs.Writing.{length_file}
 use Rattle.names.specs.Names.{list_of, list_length}
 use Rattle.names.specs.Check as list
-use Rattle.names.specs.declared.Listed.TheVariants as lists
 use Rattle.names.proofs.Encoding as encoding
 use Rattle.names.proofs.Lists.{length_list}
-use Rattle.newick.specs.declared.Derived.{Derived}
-use Rattle.newick.specs.declared.Derived.TheVariants.{Taken, Refused}
 use Rattle.newick.specs.Read.{matrix_file, name_list, read, output_after, returned, read_numbers, Reads}
 use Rattle.newick.specs.Held.{SourceTrees, matrix_of_trees, matrix_room, names_room, Fit, Short, Leaves, Encodes}
 use Rattle.newick.proofs.Taken.{Comes, taken, short, faulty, trees_accepted, read_taken, read_short, comes}
 use Rattle.newick.proofs.Taken.{matrix_legal, length_columns, names_legal, column_of, encoded}
+use Rattle.std.specs.Prelude.{Result, Ok, Err}
+use Rattle.record.specs.declared.refusal.Refusal.{Refusal}
+use Rattle.matrix.specs.Check.{shape}
+use Rattle.record.specs.declared.refusal.Reason.TheVariants as reason
+use Rattle.newick.specs.declared.Derived.{Derived}
 
-abbrev number_of : Derived → ℕ
+abbrev number_of : Result Derived Refusal → ℕ
 number_of r = (returned r).number
 
 -- ---- which texts are taken
@@ -50,7 +51,7 @@ module _ (text : List ℕ) (room space : ℕ) where
   pub accepted_exactly : ((ts : Trees) × SourceTrees text ts × Fit ts room space) ↔ ((read_numbers text room space).number ≡ 0)
   accepted_exactly = (λ (ts, s, f). rw (read_taken s room space f), λ e. back (comes text room space) e)
     where
-      back : {r : Derived} → Comes text room space r → number_of r ≡ 0 → (ts : Trees) × SourceTrees text ts × Fit ts room space
+      back : {r : Result Derived Refusal} → Comes text room space r → number_of r ≡ 0 → (ts : Trees) × SourceTrees text ts × Fit ts room space
       back (taken ts s f) e = (ts, s, f)
       back (short ts s a) e = absurd (omega arith)
       back (faulty number place f) e = absurd (omega (arith, (refused_known text f).0))
@@ -59,21 +60,21 @@ module _ (text : List ℕ) (room space : ℕ) where
   pub ten_exactly : ((ts : Trees) × SourceTrees text ts × Short ts room space) ↔ ((read_numbers text room space).number ≡ 10)
   ten_exactly = (λ (ts, s, a). rw (read_short s room space a), λ e. back (comes text room space) e)
     where
-      back : {r : Derived} → Comes text room space r → number_of r ≡ 10 → (ts : Trees) × SourceTrees text ts × Short ts room space
+      back : {r : Result Derived Refusal} → Comes text room space r → number_of r ≡ 10 → (ts : Trees) × SourceTrees text ts × Short ts room space
       back (taken ts s f) e = absurd (omega arith)
       back (short ts s a) e = (ts, s, a)
       back (faulty number place f) e = absurd (omega (arith, (refused_known text f).0))
 
-  refused : {number place : ℕ} → Refused (records.refused number place) ≡ read text room space → number ≢ 10 → outcome text ≡ verdict.refused number place
+  refused : {number place : ℕ} → Err (records.refused number place) ≡ read text room space → number ≢ 10 → outcome text ≡ verdict.refused number place
   refused {number} {place} e other = back (comes text room space) e
     where
-      back : {r : Derived} → Comes text room space r → Refused (records.refused number place) ≡ r → outcome text ≡ verdict.refused number place
+      back : {r : Result Derived Refusal} → Comes text room space r → Err (records.refused number place) ≡ r → outcome text ≡ verdict.refused number place
       back (taken ts s f) e = let z : ◌≡◌ {A = ℕ} 0 1 = cc in absurd (omega arith)
       back (short ts s a) e = absurd (other (ap number_of e))
-      back (faulty r p f) e = rw (ap number_of e, ap (λ (r : Derived). (returned r).place) e) f
+      back (faulty r p f) e = rw (ap number_of e, ap (λ (r : Result Derived Refusal). (returned r).place) e) f
 
   -- Any other refusal is the first of all that is wrong with the text: one of 16 to 20, in the text or at its end.
-  pub refused_first : {number place : ℕ} → Refused (records.refused number place) ≡ read text room space → number ≢ 10
+  pub refused_first : {number place : ℕ} → Err (records.refused number place) ≡ read text room space → number ≢ 10
       → FirstOf (faults_of text) (record { number = number; place = place }) × (16 ≤ number) × (number ≤ 20) × (place ≤ length text)
   refused_first {number} {place} e other =
       let f = refused e other in
@@ -81,7 +82,7 @@ module _ (text : List ℕ) (room space : ℕ) where
       (faults.refused_first text f, least, most, inside)
 
   -- "16 not of this grammar, or no tree, at the first byte that cannot stand there or the file's end".
-  pub sixteen_there : {place : ℕ} → Refused (records.refused 16 place) ≡ read text room space → Fault text place
+  pub sixteen_there : {place : ℕ} → Err (records.refused reason.Misfit place) ≡ read text room space → Fault text place
   sixteen_there e = place_16 text (refused e (λ f. absurd (omega arith)))
 
 -- ---- what is left
@@ -94,11 +95,11 @@ module _ {text matrix names : List ℕ} (l : Leaves text matrix names) where
       (ts, s)
 
   module _ {ts : Trees} (s : SourceTrees text ts) where
-    took : l.r ≡ Taken (matrix_room ts) (names_room ts)
+    took : l.r ≡ Ok (record { matrix = matrix_room ts; names = names_room ts })
     took = go (comes text (length l.matrix_output) (length l.names_output)) l.reads.answers
       where
-        go : {r : Derived} → Comes text (length l.matrix_output) (length l.names_output) r → l.r ≡ r → l.r ≡ Taken (matrix_room ts) (names_room ts)
-        go (taken us t f) e = e ∙ ap (λ (us : Trees). Taken (matrix_room us) (names_room us)) (unique t.spelt s.spelt)
+        go : {r : Result Derived Refusal} → Comes text (length l.matrix_output) (length l.names_output) r → l.r ≡ r → l.r ≡ Ok (record { matrix = matrix_room ts; names = names_room ts })
+        go (taken us t f) e = e ∙ ap (λ (us : Trees). Ok (record { matrix = matrix_room us; names = names_room us })) (unique t.spelt s.spelt)
         go (short us t a) e = absurd (omega (arith, ap number_of e, l.success))
         go (faulty number place f) e = absurd (omega (arith, ap number_of e, l.success, (refused_known text f).0))
 
@@ -111,14 +112,14 @@ module _ {text matrix names : List ℕ} (l : Leaves text matrix names) where
     )
 
     -- The check takes the matrix: its taxa are the names, its columns the trees' columns, of weight 1.
-    pub matrix_taken : (checks.Taken (length (taxa ts)) (length (all_columns ts)) ≡ checked matrix) × (matrix_of matrix ≡ matrix_of_trees ts)
+    pub matrix_taken : (Ok (shape (length (taxa ts)) (length (all_columns ts))) ≡ checked matrix) × (matrix_of matrix ≡ matrix_of_trees ts)
     matrix_taken =
         let m = matrix_legal s in
         let e = leaves_files.0 in
         (rw (e, ← length_columns s) (file_taken m), ap matrix_of e ∙ file_holds m)
 
     -- The check takes the name list: it reads back to the names, "numbered by first appearance".
-    pub list_taken : (lists.Taken (length (taxa ts)) ≡ list.checked names) × (list.names_in names ≡ taxa ts)
+    pub list_taken : (Ok (length (taxa ts)) ≡ list.checked names) × (list.names_in names ≡ taxa ts)
     list_taken =
         let n = names_legal s in
         let e = leaves_files.1 in
@@ -155,13 +156,13 @@ room_needed {ts = ts} s =
 -- ---- one text, one answer
 
 -- Two readings that the contract allows, with the same outputs lent, coincide.
-pub one_reading : {text matrix names : List ℕ} {r r' : Derived} {matrix' names' matrix'' names'' : List ℕ} → Reads text matrix names r matrix' names'
+pub one_reading : {text matrix names : List ℕ} {r r' : Result Derived Refusal} {matrix' names' matrix'' names'' : List ℕ} → Reads text matrix names r matrix' names'
     → Reads text matrix names r' matrix'' names'' → (r ≡ r') × (matrix' ≡ matrix'') × (names' ≡ names'')
 one_reading {text} {matrix} {names} x y =
     let same = x.answers ∙ sym y.answers in (
       same,
-      x.matrix_output ∙ ap (λ (r : Derived). output_after (matrix_file (outcome text)) r matrix) same ∙ sym y.matrix_output,
-      x.names_output ∙ ap (λ (r : Derived). output_after (name_list (outcome text)) r names) same ∙ sym y.names_output,
+      x.matrix_output ∙ ap (λ (r : Result Derived Refusal). output_after (matrix_file (outcome text)) r matrix) same ∙ sym y.matrix_output,
+      x.names_output ∙ ap (λ (r : Result Derived Refusal). output_after (name_list (outcome text)) r names) same ∙ sym y.names_output,
     )
 
 -- Whatever the outputs are, reading leaves the same bytes of a text.
@@ -175,18 +176,18 @@ one_text l k =
 -- ---- the numbers that are returned (document 01)
 
 -- "success returns 0", and only success does.
-pub reading_trees_succeeds : {text matrix names : List ℕ} {r : Derived} {matrix' names' : List ℕ} → Reads text matrix names r matrix' names'
-    → ((returned r).number ≡ 0) ↔ ((a : ℕ) × (b : ℕ) × (r ≡ Taken a b))
+pub reading_trees_succeeds : {text matrix names : List ℕ} {r : Result Derived Refusal} {matrix' names' : List ℕ} → Reads text matrix names r matrix' names'
+    → ((returned r).number ≡ 0) ↔ ((a : ℕ) × (b : ℕ) × (r ≡ Ok (record { matrix = a; names = b })))
 reading_trees_succeeds {text} {matrix} {names} {r} x = (λ e. go (comes text (length matrix) (length names)) x.answers e, λ (a, b, e). ap number_of e)
   where
-    go : {q : Derived} → Comes text (length matrix) (length names) q → r ≡ q → number_of r ≡ 0 → (a : ℕ) × (b : ℕ) × (r ≡ Taken a b)
+    go : {q : Result Derived Refusal} → Comes text (length matrix) (length names) q → r ≡ q → number_of r ≡ 0 → (a : ℕ) × (b : ℕ) × (r ≡ Ok (record { matrix = a; names = b }))
     go (taken ts s f) e z = (matrix_room ts, names_room ts, e)
     go (short ts s a) e z = absurd (omega (arith, ap number_of e))
     go (faulty number place f) e z = absurd (omega (arith, ap number_of e, (refused_known text f).0))
 
 -- "A refusal returns its number and place, 0 for every other number, and changes no lent memory."
-pub refused_reading_trees : {text matrix names : List ℕ} {r : Derived} {matrix' names' : List ℕ} → Reads text matrix names r matrix' names'
+pub refused_reading_trees : {text matrix names : List ℕ} {r : Result Derived Refusal} {matrix' names' : List ℕ} → Reads text matrix names r matrix' names'
     → (returned r).number ≢ 0 → ((returned r).matrix ≡ 0) × ((returned r).names ≡ 0) × (matrix' ≡ matrix) × (names' ≡ names)
 unfolding output_after
-refused_reading_trees {r = Taken a b} x some = absurd (some refl)
-refused_reading_trees {r = Refused why} x some = (refl, refl, x.matrix_output, x.names_output)
+refused_reading_trees {r = Ok (record { matrix = a; names = b })} x some = absurd (some refl)
+refused_reading_trees {r = Err why} x some = (refl, refl, x.matrix_output, x.names_output)

@@ -27,37 +27,39 @@ use Rattle.matrix.specs.Matrix as matrix
 use Rattle.matrix.specs.declared.Column as matrix-column
 use Rattle.matrix.specs.Matrix.{absent, LegalColumns, none, one}
 use Rattle.names.specs.Names as names
-use Rattle.newick.specs.declared.Derived.{Derived}
-use Rattle.newick.specs.declared.Derived.TheVariants.{Taken, Refused}
 use Rattle.newick.specs.Read.{matrix_for, answered, read}
 use Rattle.newick.specs.Held.{SourceTrees, matrix_of_trees, matrix_room, names_room, Fit, Short, Encodes}
+use Rattle.std.specs.Prelude.{Result, Ok, Err}
+use Rattle.record.specs.declared.refusal.Refusal.{Refusal}
+use Rattle.record.specs.declared.refusal.Reason.TheVariants as reason
+use Rattle.newick.specs.declared.Derived.{Derived}
 
 -- ---- what reading comes to
 
-pub data Comes (text : List ℕ) (room space : ℕ) : Derived → Type 0 where
-  taken : (ts : Trees) → SourceTrees text ts → Fit ts room space → Comes text room space (Taken (matrix_room ts) (names_room ts))
-  short : (ts : Trees) → SourceTrees text ts → Short ts room space → Comes text room space (Refused (records.refused 10 0))
-  faulty : (number place : ℕ) → outcome text ≡ refused number place → Comes text room space (Refused (records.refused number place))
+pub data Comes (text : List ℕ) (room space : ℕ) : Result Derived Refusal → Type 0 where
+  taken : (ts : Trees) → SourceTrees text ts → Fit ts room space → Comes text room space (Ok (record { matrix = matrix_room ts; names = names_room ts }))
+  short : (ts : Trees) → SourceTrees text ts → Short ts room space → Comes text room space (Err (records.refused reason.Room 0))
+  faulty : (number place : ℕ) → outcome text ≡ refused number place → Comes text room space (Err (records.refused number place))
 
 module _ {text : List ℕ} {ts : Trees} (s : SourceTrees text ts) where
   pub trees_accepted : outcome text ≡ accepted ts (between (taxa ts) (all_columns ts))
   trees_accepted = reads text ts s.spelt s.within
 
-  pub read_taken : (room space : ℕ) → Fit ts room space → read text room space ≡ Taken (matrix_room ts) (names_room ts)
+  pub read_taken : (room space : ℕ) → Fit ts room space → read text room space ≡ Ok (record { matrix = matrix_room ts; names = names_room ts })
   unfolding read answered
   read_taken room space (a, b) = rw (trees_accepted, le-ltb room (matrix_room ts) a, le-ltb space (names_room ts) b)
 
-  pub read_short : (room space : ℕ) → Short ts room space → read text room space ≡ Refused (records.refused 10 0)
+  pub read_short : (room space : ℕ) → Short ts room space → read text room space ≡ Err (records.refused reason.Room 0)
   unfolding read answered
   read_short room space (inl a) = rw (trees_accepted, lt-ltb room (matrix_room ts) a)
   read_short room space (inr b) = rw (trees_accepted, lt-ltb space (names_room ts) b) (either (ltb room (matrix_room ts)))
     where
-      either : (c : Bool) → cond (c || true) (Refused (records.refused 10 0)) (Taken (matrix_room ts) (names_room ts)) ≡ Refused (records.refused 10 0)
+      either : (c : Bool) → cond (c || true) (Err (records.refused reason.Room 0)) (Ok (record { matrix = matrix_room ts; names = names_room ts })) ≡ Err (records.refused reason.Room 0)
       either true = refl
       either false = refl
 
 read_faulty : (text : List ℕ) {number place : ℕ} (room space : ℕ) → outcome text ≡ refused number place
-    → read text room space ≡ Refused (records.refused number place)
+    → read text room space ≡ Err (records.refused number place)
 unfolding read answered
 read_faulty text room space e = rw e
 

@@ -1,5 +1,5 @@
 -- What people hold: a text of source trees, and the matrix file and the name list that reading leaves.
-use Rattle.std.specs.Prelude.{◌≡◌, ◌↔◌, ◌⊎◌, ℕ, ◌≤◌, ◌<◌, length, take}
+use Rattle.std.specs.Prelude.{◌≡◌, ◌↔◌, ◌⊎◌, ℕ, ◌≤◌, ◌<◌, length, take, Result}
 use mathlib.Core.List.{List, Memᴰ}
 use Rattle.taxa.specs.Sets.{◌∈◌, ◌∉◌}
 use Rattle.grammar.specs.Trees.{Trees}
@@ -9,8 +9,9 @@ use Rattle.grammar.specs.Limits.{taxa, Within}
 use Rattle.matrix.specs.Matrix.{Matrix, file_of}
 use Rattle.matrix.specs.declared.Column as matrix
 use Rattle.names.specs.Names.{list_of}
-use Rattle.newick.specs.declared.Derived.{Derived}
 use Rattle.newick.specs.Read.{matrix_for, returned, Reads}
+use Rattle.record.specs.declared.refusal.Refusal.{Refusal}
+use Rattle.newick.specs.declared.Derived.{Derived}
 
 -- The source trees of a text: it spells them, and they are within the limits.
 pub record SourceTrees (text : List ℕ) (ts : Trees) : Type 0 where
@@ -41,7 +42,7 @@ Short ts room space = (room < matrix_room ts) ⊎ (space < names_room ts)
 pub record Leaves (text matrix names : List ℕ) : Type 0 where
   pub matrix_output : List ℕ
   pub names_output : List ℕ
-  pub r : Derived
+  pub r : Result Derived Refusal
   pub matrix_output' : List ℕ
   pub names_output' : List ℕ
   pub reads : Reads text matrix_output names_output r matrix_output' names_output'

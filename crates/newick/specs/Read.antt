@@ -1,5 +1,5 @@
 -- The operation "read source trees" (document 02, C-11): a Newick text, and two lent outputs, for a matrix file and for a name list.
-use Rattle.std.specs.Prelude.{◌≡◌, ◌||◌, cond, List, [], map, ℕ, ltb, length}
+use Rattle.std.specs.Prelude.{◌≡◌, ◌||◌, cond, List, [], map, ℕ, ltb, length, Result, Ok, Err}
 use Rattle.record.specs.Bytes.{over}
 use Rattle.record.specs.Records as records
 use Rattle.grammar.specs.Columns.{Bytes, Column}
@@ -8,8 +8,10 @@ use Rattle.grammar.specs.Clerk.{Tally, outcome}
 use Rattle.ledger.specs.Sets.{ones_of, zeros_of}
 use Rattle.matrix.specs.Matrix.{Matrix, file_of}
 use Rattle.names.specs.Names.{list_of}
+use Rattle.record.specs.declared.refusal.Refusal.{Refusal}
+use Rattle.record.specs.declared.refusal.Reason.TheVariants as reason
+use Rattle.record.specs.Refusals.{refusal_number}
 use Rattle.newick.specs.declared.Derived.{Derived}
-use Rattle.newick.specs.declared.Derived.TheVariants.{Taken, Refused}
 
 -- "Every inner vertex but the root gives a column of weight 1", as sets of taxa "numbered by first appearance".
 abbrev pub matrix_for : List Bytes → List Column → Matrix
@@ -30,20 +32,20 @@ name_list (refused number place) = []
 
 -- The text's refusals come first, then 10, "shorter than what goes into it"; `room` and `space` are the lengths of the outputs, for the matrix and
 -- for the names.
-unfoldable pub answered : Verdict Tally → ℕ → ℕ → Derived
-answered (refused number place) room space = Refused (records.refused number place)
+unfoldable pub answered : Verdict Tally → ℕ → ℕ → Result Derived Refusal
+answered (refused number place) room space = Err (records.refused number place)
 answered (accepted ts x) room space =
-    cond (ltb room (length (matrix_file (accepted ts x))) || ltb space (length (name_list (accepted ts x)))) (Refused (records.refused 10 0))
-    (Taken (length (matrix_file (accepted ts x))) (length (name_list (accepted ts x))))
+    cond (ltb room (length (matrix_file (accepted ts x))) || ltb space (length (name_list (accepted ts x)))) (Err (records.refused reason.Room 0))
+    (Ok (record { matrix = length (matrix_file (accepted ts x)); names = length (name_list (accepted ts x)) }))
 
 -- What reading a text answers: the lengths of what is written.
-unfoldable pub read : List ℕ → ℕ → ℕ → Derived
+unfoldable pub read : List ℕ → ℕ → ℕ → Result Derived Refusal
 read text room space = answered (outcome text) room space
 
 -- "A refusal [..] changes no lent memory." "Output past the written length stays as it was."
-unfoldable pub output_after : List ℕ → Derived → List ℕ → List ℕ
-output_after file (Refused why) out = out
-output_after file (Taken matrix names) out = over file 0 out
+unfoldable pub output_after : List ℕ → Result Derived Refusal → List ℕ → List ℕ
+output_after file (Err why) out = out
+output_after file (Ok it) out = over file 0 out
 
 -- Document 01's numbers for each case, with the length of each thing written.
 pub record Returned : Type 0 where
@@ -53,16 +55,16 @@ pub record Returned : Type 0 where
   pub names : ℕ
 
 -- These numbers, by the case.
-abbrev pub returned : Derived → Returned
-returned (Taken matrix names) = record { number = 0; place = 0; matrix = matrix; names = names }
-returned (Refused why) = record { number = why.number; place = why.place; matrix = 0; names = 0 }
+abbrev pub returned : Result Derived Refusal → Returned
+returned (Ok it) = record { number = 0; place = 0; matrix = it.matrix; names = it.names }
+returned (Err why) = record { number = refusal_number why.reason; place = why.place; matrix = 0; names = 0 }
 
 -- The numbers that reading a text returns.
 abbrev pub read_numbers : List ℕ → ℕ → ℕ → Returned
 read_numbers text room space = returned (read text room space)
 
 -- What reading promises of its answer, and of both outputs at the end.
-pub record Reads (text matrix names : List ℕ) (r : Derived) (matrix' names' : List ℕ) : Type 0 where
+pub record Reads (text matrix names : List ℕ) (r : Result Derived Refusal) (matrix' names' : List ℕ) : Type 0 where
   pub answers : r ≡ read text (length matrix) (length names)
   pub numbers : returned r ≡ read_numbers text (length matrix) (length names)
   pub matrix_output : matrix' ≡ output_after (matrix_file (outcome text)) r matrix

@@ -12,9 +12,7 @@ use lib.Seq.{take-suc, take-length}
 use borrow.Author.Tests.{le-ltb}
 use Rattle.record.specs.Bytes.{File}
 use Rattle.record.specs.Records.{refused}
-use Rattle.record.specs.declared.Refusal.{Refusal}
-use Rattle.matrix.specs.declared.Checked.{Checked}
-use Rattle.matrix.specs.declared.Checked.TheVariants as checks
+use Rattle.record.specs.declared.refusal.Refusal.{Refusal}
 use Rattle.matrix.specs.Check.{checked}
 use Rattle.answer.specs.Content.{Content, content_in, content_of, answer_of, file_of, length_of}
 use Rattle.answer.specs.Lawful.{Lawful}
@@ -28,14 +26,17 @@ use Rattle.answer.proofs.RoundTrip.{reads_back, read_content}
 use Rattle.method.specs.Tree.{Group, Flips, Matrix, one_entries, Sound, answer}
 use Rattle.split.specs.Columns.{matrix_in}
 use Rattle.split.proofs.Soundness.{taken_sound}
-use Rattle.tree.specs.declared.Built.{Built}
-use Rattle.tree.specs.declared.Built.TheVariants.{Taken, Refused}
 use Rattle.tree.specs.Lists as lists
 use Rattle.tree.specs.Build.{content_for, room_for, taken_of, answered, built, output_after, workspace_after, returned}
 use Rattle.tree.proofs.Rules.{answer_lawful}
 use Rattle.promises.specs.Held.{Leaves, groups_in, flips_in, total_in}
 use Rattle.promises.proofs.Bytes.{file_bytes}
 use Rattle.promises.proofs.Numbers.{build_succeeds}
+use Rattle.std.specs.Prelude.{Result, Ok, Err}
+use Rattle.matrix.specs.Check.{shape}
+use Rattle.record.specs.declared.refusal.Reason.TheVariants as reason
+use Rattle.matrix.specs.declared.Shape.{Shape}
+use Rattle.tree.specs.declared.Built.{Built}
 
 -- ---- lists of groups and flips, apart and together again
 
@@ -64,36 +65,36 @@ flips_whole fs (suc k) l =
 -- ---- a build that took a file
 
 -- The check took the file too, and there was room.
-record Took (file : List ℕ) (space room : ℕ) (r : Built) : Type 0 where
+record Took (file : List ℕ) (space room : ℕ) (r : Result Built Refusal) : Type 0 where
   n : ℕ
   m : ℕ
-  taken : checks.Taken n m ≡ checked file
+  taken : Ok (shape n m) ≡ checked file
   is : r ≡ taken_of file
 
-took : (file : List ℕ) (space room : ℕ) {size sum : ℕ} → Taken size sum ≡ built file space room → Took file space room (Taken size sum)
+took : (file : List ℕ) (space room : ℕ) {size sum : ℕ} → Ok (record { size = size; total = sum }) ≡ built file space room → Took file space room (Ok (record { size = size; total = sum }))
 unfolding built answered
 took file space room {size} {sum} e = go (checked file) refl e
   where
-    none : {why : Refusal} → Taken size sum ≡ Refused why → Took file space room (Taken size sum)
+    none : {why : Refusal} → Ok (record { size = size; total = sum }) ≡ Err why → Took file space room (Ok (record { size = size; total = sum }))
     none w = absurd (let z : ◌≡◌ {A = ℕ} 0 1 = cc in omega arith)
 
-    tested : (n m : ℕ) → checks.Taken n m ≡ checked file → (a b : Bool) → Taken size sum ≡ cond a (Refused (refused 9 0)) (cond b (Refused (refused 10 0)) (taken_of file)) → Took file space room (Taken size sum)
+    tested : (n m : ℕ) → Ok (shape n m) ≡ checked file → (a b : Bool) → Ok (record { size = size; total = sum }) ≡ cond a (Err (refused reason.Workspace 0)) (cond b (Err (refused reason.Room 0)) (taken_of file)) → Took file space room (Ok (record { size = size; total = sum }))
     tested n m t true b w = none w
     tested n m t false true w = none w
     tested n m t false false w = record { n = n; m = m; taken = t; is = w }
 
-    go : (k : Checked) → k ≡ checked file → Taken size sum ≡ answered k file space room → Took file space room (Taken size sum)
-    go (checks.Refused why) t w = none w
-    go (checks.Taken n m) t w = tested n m t (ltb space (one_entries (matrix_in file))) (ltb room (room_for n m)) w
+    go : (k : Result Shape Refusal) → k ≡ checked file → Ok (record { size = size; total = sum }) ≡ answered k file space room → Took file space room (Ok (record { size = size; total = sum }))
+    go (Err why) t w = none w
+    go (Ok it) t w = tested it.n it.m t (ltb space (one_entries (matrix_in file))) (ltb room (room_for it.n it.m)) w
 
 module _ {file answerFile : List ℕ} (b : Leaves file answerFile) where
   it : Took file (length b.ws) (length b.out) b.r
   it =
       let (size, sum, e) = (build_succeeds b.builds).0 b.success in
-      subst (λ (r : Built). Took file (length b.ws) (length b.out) r) (sym e) (took file (length b.ws) (length b.out) (sym e ∙ b.builds.answers))
+      subst (λ (r : Result Built Refusal). Took file (length b.ws) (length b.out) r) (sym e) (took file (length b.ws) (length b.out) (sym e ∙ b.builds.answers))
 
   -- The build takes only what the check takes.
-  pub leaves_taken : (n : ℕ) × (m : ℕ) × (checks.Taken n m ≡ checked file)
+  pub leaves_taken : (n : ℕ) × (m : ℕ) × (Ok (shape n m) ≡ checked file)
   leaves_taken = (it.n, it.m, it.taken)
 
   -- What it leaves is the file of the method's answer to the matrix in the file.
@@ -101,18 +102,18 @@ module _ {file answerFile : List ℕ} (b : Leaves file answerFile) where
   unfolding output_after
   leaves_file =
       let c = content_for (matrix_in file) in
-      let output = b.builds.output ∙ ap (λ (r : Built). output_after file r b.out) it.is in
+      let output = b.builds.output ∙ ap (λ (r : Result Built Refusal). output_after file r b.out) it.is in
       b.bytes ∙ (λ i. take (returned (it.is i)).size (output i)) ∙ front_is (file_of c) b.out (length_of c) (length_file c)
 
   -- The two numbers that the build returned are that file's length and the method's total.
   pub leaves_numbers : ((returned b.r).size ≡ length answerFile) × ((returned b.r).sum ≡ (content_for (matrix_in file)).total)
   leaves_numbers = (
-    ap (λ (r : Built). (returned r).size) it.is ∙ sym (ap length leaves_file ∙ length_file (content_for (matrix_in file))),
-    ap (λ (r : Built). (returned r).sum) it.is,
+    ap (λ (r : Result Built Refusal). (returned r).size) it.is ∙ sym (ap length leaves_file ∙ length_file (content_for (matrix_in file))),
+    ap (λ (r : Result Built Refusal). (returned r).sum) it.is,
   )
 
 -- There is such an answer file for each file that the check takes, given the workspace that document 02 asks (C-13), and the room that document 01 does.
-pub build_leaves : {file : List ℕ} {n m : ℕ} → checks.Taken n m ≡ checked file → (ws : List ℤ) (out : List ℕ) → one_entries (matrix_in file) ≤ length ws → room_for n m ≤ length out
+pub build_leaves : {file : List ℕ} {n m : ℕ} → Ok (shape n m) ≡ checked file → (ws : List ℤ) (out : List ℕ) → one_entries (matrix_in file) ≤ length ws → room_for n m ≤ length out
     → Leaves file (file_of (content_for (matrix_in file)))
 unfolding built answered output_after
 build_leaves {file} {n} {m} taken ws out l k =

@@ -10,8 +10,6 @@ use Rattle.record.specs.Bytes.{over, File}
 use Rattle.answer.specs.declared.Answer.{Answer}
 use Rattle.answer.specs.declared.Reading.{Reading}
 use Rattle.answer.specs.declared.Verdict.TheVariants as verdict
-use Rattle.answer.specs.declared.Written.{Written}
-use Rattle.answer.specs.declared.Written.TheVariants as written
 use Rattle.answer.specs.Content.{Content, content_in, answer_of}
 use Rattle.answer.specs.Reading as reading
 use Rattle.answer.specs.Writing as writing
@@ -27,9 +25,11 @@ use Rattle.promises.proofs.Numbers.{reading_succeeds, writing_succeeds}
 use Rattle.promises.proofs.Refusals.{refused_reading, refused_write}
 use Rattle.promises.proofs.Answers.{answer_content, answer_taken}
 use Rattle.promises.proofs.OneAnswer.{one_write, no_two_answer_files}
+use Rattle.std.specs.Prelude.{Result, Ok, Err}
+use Rattle.record.specs.declared.refusal.Refusal.{Refusal}
 
 -- What writing promises of a list of entries, as it promises it of three lists.
-apart_written : (a : Answer) (list : List Flip) {out : List ℕ} {w : Written} {out' : List ℕ} → WritesEntries a list out w out'
+apart_written : (a : Answer) (list : List Flip) {out : List ℕ} {w : Result ℕ Refusal} {out' : List ℕ} → WritesEntries a list out w out'
     → Writes (entry_content a list) (reading.listed (entry_columns list) (entry_raised list) (entry_lowered list)) out w out'
 apart_written a list w = rw (listed_entries list) w
 
@@ -41,23 +41,23 @@ taken {file} {list} x success = (reading_succeeds file (length list) x.answers).
 
 -- Of what a writing that succeeded wrote, any reading into a list with room for its flips is taken: it returns the value that was written, places past the last
 -- group 0, and leaves in the first places of the list the entries that were written, the rest as it was.
-pub reading_entries_written : {a : Answer} (list : List Flip) → InWidths a → {out : List ℕ} {w : Written} {out' : List ℕ} → WritesEntries a list out w out' → (writing.returned w).number ≡ 0
+pub reading_entries_written : {a : Answer} (list : List Flip) → InWidths a → {out : List ℕ} {w : Result ℕ Refusal} {out' : List ℕ} → WritesEntries a list out w out' → (writing.returned w).number ≡ 0
     → {lent : List Flip} {r : Reading} {lent' : List Flip} → ReadsEntries (take (writing.returned w).size out') lent r lent' → a.flips ≤ length lent
     → (r ≡ record { verdict = verdict.Taken; answer = answer_of (entry_content a list) })
     × (take a.flips lent' ≡ take a.flips list)
     × (drop a.flips lent' ≡ drop a.flips lent)
-reading_entries_written {a} list fits {w = written.Length size} writes success {lent} x room =
+reading_entries_written {a} list fits {w = Ok size} writes success {lent} x room =
     let apart = apart_written a list writes in
     let (_, holds, reads) = lists.reading_what_was_written a (entry_columns list) (entry_raised list) (entry_lowered list) fits.taxa_places fits.costs_places fits.total_fits apart in
     let is = x.answers ∙ reads (length lent) room in
     let (first, rest) = taken_entries x (ap (λ (r : Reading). r.verdict) is) holds in
     (is, first ∙ entries_given a list, rest)
-reading_entries_written list fits {w = written.Refused why} writes success x room =
+reading_entries_written list fits {w = Err why} writes success x room =
     let (size, e) = (writing_succeeds writes).0 success in absurd (let z : ◌≡◌ {A = ℕ} 0 1 = cc in omega arith)
 
 -- Writing what a reading took gives back the file: its length is returned, and it stands in the output, the rest as it was.
 pub writing_entries_read : {file : List ℕ} {list : List Flip} {r : Reading} {list' : List Flip} → File file → ReadsEntries file list r list' → (reading.returned r).number ≡ 0
-    → {out : List ℕ} {w : Written} {out' : List ℕ} → WritesEntries r.answer list' out w out' → length file ≤ length out → (w ≡ written.Length (length file)) × (out' ≡ over file 0 out)
+    → {out : List ℕ} {w : Result ℕ Refusal} {out' : List ℕ} → WritesEntries r.answer list' out w out' → length file ≤ length out → (w ≡ Ok (length file)) × (out' ≡ over file 0 out)
 writing_entries_read {r = r} {list' = list'} f x success w room = lists.writing_what_was_read f (apart_read x) (taken x success) room (apart_written r.answer list' w)
 
 -- The build's own answer file: with room for its flips any reading of it is taken, and what it returns and leaves in the list is the method's answer.
@@ -91,7 +91,7 @@ one_read_of_entries {file} {list} x y =
     let same = x.answers ∙ sym y.answers in
     (same, x.list_after ∙ ap (λ (r : Reading). stored r.verdict es ++ drop (length (stored r.verdict es)) list) same ∙ sym y.list_after)
 
-pub one_write_of_entries : (a : Answer) (list : List Flip) {out : List ℕ} {r r' : Written} {out' out'' : List ℕ} → WritesEntries a list out r out' → WritesEntries a list out r' out''
+pub one_write_of_entries : (a : Answer) (list : List Flip) {out : List ℕ} {r r' : Result ℕ Refusal} {out' out'' : List ℕ} → WritesEntries a list out r out' → WritesEntries a list out r' out''
     → (r ≡ r') × (out' ≡ out'')
 one_write_of_entries a list x y = one_write x y
 
@@ -102,8 +102,8 @@ pub reading_of_entries_succeeds : {file : List ℕ} {list : List Flip} {r : Read
     → (reading.returned r).number ≡ 0 ↔ r.verdict ≡ verdict.Taken
 reading_of_entries_succeeds {file} {list} x = reading_succeeds file (length list) x.answers
 
-pub writing_of_entries_succeeds : (a : Answer) (list : List Flip) {out : List ℕ} {r : Written} {out' : List ℕ} → WritesEntries a list out r out'
-    → (writing.returned r).number ≡ 0 ↔ ((size : ℕ) × (r ≡ written.Length size))
+pub writing_of_entries_succeeds : (a : Answer) (list : List Flip) {out : List ℕ} {r : Result ℕ Refusal} {out' : List ℕ} → WritesEntries a list out r out'
+    → (writing.returned r).number ≡ 0 ↔ ((size : ℕ) × (r ≡ Ok size))
 writing_of_entries_succeeds a list x = writing_succeeds x
 
 -- On any other, "0 for every other number", "and then all lent memory is as before".
@@ -111,6 +111,6 @@ pub refused_read_of_entries : {file : List ℕ} {list : List Flip} {r : Reading}
     → (r.answer ≡ answer_of reading.empty) × (list' ≡ list)
 refused_read_of_entries {file} {list} x some = let (why, e, none) = refused_reading file (length list) x.answers some in (none, x.list_after ∙ rw e)
 
-pub refused_write_of_entries : (a : Answer) (list : List Flip) {out : List ℕ} {r : Written} {out' : List ℕ} → WritesEntries a list out r out' → (writing.returned r).number ≢ 0
+pub refused_write_of_entries : (a : Answer) (list : List Flip) {out : List ℕ} {r : Result ℕ Refusal} {out' : List ℕ} → WritesEntries a list out r out' → (writing.returned r).number ≢ 0
     → ((writing.returned r).size ≡ 0) × (out' ≡ out)
 refused_write_of_entries a list x some = refused_write x some

@@ -14,8 +14,6 @@ use Rattle.answer.specs.declared.Verdict.TheVariants as verdict
 use Rattle.answer.specs.Reading as reading
 use Rattle.answer.specs.Writing as writing
 use Rattle.entries.specs.declared.Flip.{Flip}
-use Rattle.split.specs.declared.Divided.{Divided}
-use Rattle.split.specs.declared.Divided.TheVariants as splits
 use Rattle.split.specs.Operation as split
 use Rattle.tree.specs.Build as build
 use Rattle.flipcut.specs.Packed.{packed_build, packed_split, packed_read, packed_write, result_after, value_after}
@@ -25,6 +23,9 @@ use Rattle.flipcut.proofs.Unpacking.{build_unpacks, split_unpacks, read_unpacks,
 use Rattle.promises.proofs.Refusals.{refused_build, refused_split}
 use Rattle.promises.proofs.OneAnswer.{one_build, one_split}
 use Rattle.promises.proofs.Entries.{refused_read_of_entries, refused_write_of_entries, one_read_of_entries, one_write_of_entries}
+use Rattle.std.specs.Prelude.{Result, Ok, Err}
+use Rattle.record.specs.declared.refusal.Refusal.{Refusal}
+use Rattle.search.specs.declared.Split.{Split}
 
 -- ---- "and then all lent memory is as before"
 
@@ -35,9 +36,9 @@ refused_build_from_c f p some =
     let (size, sum, workspace, output) = refused_build p.promised (λ none. some (same ∙ none)) in
     (workspace, output)
 
-kept_result : (r : Divided) → (split.returned r).number ≢ 0 → (result : List ℕ) → result_after r result ≡ result
-kept_result (splits.Taken cost A t) some result = absurd (some refl)
-kept_result (splits.Refused why) some result = refl
+kept_result : (r : Result Split Refusal) → (split.returned r).number ≢ 0 → (result : List ℕ) → result_after r result ≡ result
+kept_result (Ok it) some result = absurd (some refl)
+kept_result (Err why) some result = refl
 
 pub refused_split_from_c : {file : List ℕ} {S : ℕ} {ws ws' : List ℤ} {result result' : List ℕ} {v : ℕ} → length result ≡ 3
     → SplitsPacked file S ws result v ws' result' → number_in v ≢ 0 → (ws' ≡ ws) × (result' ≡ result)
@@ -80,7 +81,7 @@ pub one_split_from_c : {file : List ℕ} {S : ℕ} {ws : List ℤ} {result : Lis
     → SplitsPacked file S ws result v ws' result' → SplitsPacked file S ws result v' ws'' result'' → (v ≡ v') × (ws' ≡ ws'') × (result' ≡ result'')
 one_split_from_c {result = result} p q =
     let (same, workspace) = one_split p.promised.0 q.promised.0 in
-    (p.packs ∙ ap packed_split same ∙ sym q.packs, workspace, p.promised.1 ∙ ap (λ (r : Divided). result_after r result) same ∙ sym q.promised.1)
+    (p.packs ∙ ap packed_split same ∙ sym q.packs, workspace, p.promised.1 ∙ ap (λ (r : Result Split Refusal). result_after r result) same ∙ sym q.promised.1)
 
 pub one_read_from_c : {file : List ℕ} {list : List Flip} {result : List ℕ} {v v' : ℕ} {list' list'' : List Flip} {result' result'' : List ℕ}
     → ReadsPacked file list result v list' result' → ReadsPacked file list result v' list'' result'' → (v ≡ v') × (list' ≡ list'') × (result' ≡ result'')

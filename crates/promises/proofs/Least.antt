@@ -32,7 +32,6 @@ use Rattle.split.proofs.Loading.{file_column}
 use Rattle.split.proofs.Soundness.{taken_count, taken_known, taken_sound}
 use Rattle.tree.specs.Build.{content_for}
 use Rattle.tree.proofs.Lists.{group_at, place_of}
-use Rattle.score.specs.declared.Scored.{Scored}
 use Rattle.score.specs.Score.{at_leaf, at_group, distance, ColumnScore, column_score}
 use Rattle.score.specs.Operation.{NodeIn, node_in, stand_for, returned, Scores}
 use Rattle.score.proofs.Least.{goal, score_distance, none_nearer}
@@ -41,6 +40,9 @@ use Rattle.promises.specs.Pairs.{AcceptedPair, clades_in, LeastFlips}
 use Rattle.promises.proofs.Bytes.{file_bytes}
 use Rattle.promises.proofs.Answers.{leaves_taken, leaves_file, sound, lawful, answer_content, groups_are, flips_are, total_is}
 use Rattle.promises.proofs.Score.{scored_exactly, column_node, score_is}
+use Rattle.std.specs.Prelude.{Result}
+use Rattle.record.specs.declared.refusal.Refusal.{Refusal}
+use Rattle.score.specs.declared.Sums.{Sums}
 
 -- ---- the tree of any accepted answer
 
@@ -107,7 +109,7 @@ module _ {file answerFile : List ℕ} (f : File file) (g : File answerFile) (p :
   legal : (c : ℕ) → c < m → LegalColumn M.taxa (column_in file c)
   legal c b = taken_column f p.accepted.taken c (omega (arith, taken_count f p.accepted.taken))
 
-  module _ {r : Scored} (x : Scores file answerFile r) where
+  module _ {r : Result Sums Refusal} (x : Scores file answerFile r) where
     returns : (returned r).number ≡ 0
     returns = (scored_exactly x).1 p
 
@@ -182,7 +184,7 @@ module _ {file answerFile : List ℕ} (f : File file) (b : Leaves file answerFil
       × (choice_weight 64 (multiplicities_of built) (many built) (columns_of built) chosen ≡ total_in answerFile)
   flips_are_a_choice = rw (groups_are f b, flips_are f b, total_is f b) (method.answer_choice built (sound f b))
 
-  pub score_at_most_total : {r : Scored} → Scores file answerFile r → ((returned r).number ≡ 0) × ((returned r).raises + (returned r).lowers ≤ total_in answerFile)
+  pub score_at_most_total : {r : Result Sums Refusal} → Scores file answerFile r → ((returned r).number ≡ 0) × ((returned r).raises + (returned r).lowers ≤ total_in answerFile)
   score_at_most_total x =
       let (zero, least) = score_is_least f (rw (leaves_file b) (file_bytes (content_for built))) built_pair x in
       let (chosen, lets, same, weighs) = flips_are_a_choice in

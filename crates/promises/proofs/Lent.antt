@@ -16,21 +16,22 @@ use Rattle.taxa.proofs.Sums.{sum_bound, sum_none}
 use Rattle.taxa.proofs.Counts.{count_⊆, count_all, count_none}
 use Rattle.record.specs.Bytes.{File}
 use Rattle.record.specs.Records.{refused}
-use Rattle.matrix.specs.declared.Checked.{Checked}
-use Rattle.matrix.specs.declared.Checked.TheVariants as checks
 use Rattle.matrix.specs.Check.{checked}
 use Rattle.method.specs.Tree.{Matrix, column, one_entries}
 use Rattle.search.specs.Workspace.{cleared}
 use Rattle.split.specs.Columns.{matrix_in}
-use Rattle.split.specs.declared.Divided.{Divided}
-use Rattle.split.specs.declared.Divided.TheVariants as divided
 use Rattle.split.specs.Operation as split
 use Rattle.split.proofs.Soundness.{taken_sound, taken_count, taken_known}
-use Rattle.tree.specs.declared.Built.{Built}
-use Rattle.tree.specs.declared.Built.TheVariants as built
 use Rattle.tree.specs.Build as build
 use Rattle.promises.specs.Lent.{OneForEach1}
 use Rattle.promises.proofs.Numbers.{build_succeeds, split_succeeds}
+use Rattle.std.specs.Prelude.{Result, Ok, Err}
+use Rattle.record.specs.declared.refusal.Refusal.{Refusal}
+use Rattle.matrix.specs.Check.{shape}
+use Rattle.record.specs.declared.refusal.Reason.TheVariants as reason
+use Rattle.matrix.specs.declared.Shape.{Shape}
+use Rattle.search.specs.declared.Split.{Split}
+use Rattle.tree.specs.declared.Built.{Built}
 
 -- ---- a cleared workspace, number by number
 
@@ -54,38 +55,38 @@ one_for_each M ws l =
 -- ---- build and split
 
 module _ {file : List ℕ} {ws : List ℤ} where
-  pub build_workspace : {out : List ℕ} {r : Built} {ws' : List ℤ} {out' : List ℕ} → build.Builds file ws out r ws' out' → (build.returned r).number ≡ 0 → OneForEach1 (matrix_in file) ws ws'
+  pub build_workspace : {out : List ℕ} {r : Result Built Refusal} {ws' : List ℤ} {out' : List ℕ} → build.Builds file ws out r ws' out' → (build.returned r).number ≡ 0 → OneForEach1 (matrix_in file) ws ws'
   unfolding build.workspace_after build.built build.answered
-  build_workspace {r = built.Refused why} x none = let (size, sum, e) = (build_succeeds x).0 none in absurd (let z : ◌≡◌ {A = ℕ} 0 1 = cc in omega arith)
-  build_workspace {out = out} {r = built.Taken size sum} x none = rw x.workspace (one_for_each (matrix_in file) ws (enough (checked file) x.answers))
+  build_workspace {r = Err why} x none = let (size, sum, e) = (build_succeeds x).0 none in absurd (let z : ◌≡◌ {A = ℕ} 0 1 = cc in omega arith)
+  build_workspace {out = out} {r = Ok (record { size = size; total = sum })} x none = rw x.workspace (one_for_each (matrix_in file) ws (enough (checked file) x.answers))
     where
-      tested : (a : Bool) (other : Built) → ltb (length ws) (one_entries (matrix_in file)) ≡ a → built.Taken size sum ≡ cond a (built.Refused (refused 9 0)) other → one_entries (matrix_in file) ≤ length ws
+      tested : (a : Bool) (other : Result Built Refusal) → ltb (length ws) (one_entries (matrix_in file)) ≡ a → Ok (record { size = size; total = sum }) ≡ cond a (Err (refused reason.Workspace 0)) other → one_entries (matrix_in file) ≤ length ws
       tested false other e w = omega (arith, ltb-false (length ws) (one_entries (matrix_in file)) e)
       tested true other e w = absurd (let z : ◌≡◌ {A = ℕ} 0 1 = cc in omega arith)
 
-      enough : (k : Checked) → built.Taken size sum ≡ build.answered k file (length ws) (length out) → one_entries (matrix_in file) ≤ length ws
-      enough (checks.Refused why) w = absurd (let z : ◌≡◌ {A = ℕ} 0 1 = cc in omega arith)
-      enough (checks.Taken n m) w = tested (ltb (length ws) (one_entries (matrix_in file))) (cond (ltb (length out) (build.room_for n m)) (built.Refused (refused 10 0)) (build.taken_of file)) refl w
+      enough : (k : Result Shape Refusal) → Ok (record { size = size; total = sum }) ≡ build.answered k file (length ws) (length out) → one_entries (matrix_in file) ≤ length ws
+      enough (Err why) w = absurd (let z : ◌≡◌ {A = ℕ} 0 1 = cc in omega arith)
+      enough (Ok it) w = tested (ltb (length ws) (one_entries (matrix_in file))) (cond (ltb (length out) (build.room_for it.n it.m)) (Err (refused reason.Room 0)) (build.taken_of file)) refl w
 
-  pub split_workspace : {S : ℕ} {r : Divided} {ws' : List ℤ} → split.Splits file S ws r ws' → (split.returned r).number ≡ 0 → OneForEach1 (matrix_in file) ws ws'
+  pub split_workspace : {S : ℕ} {r : Result Split Refusal} {ws' : List ℤ} → split.Splits file S ws r ws' → (split.returned r).number ≡ 0 → OneForEach1 (matrix_in file) ws ws'
   unfolding split.workspace_after split.divided split.answered
-  split_workspace {r = divided.Refused why} x none = let (cost, A, t, e) = (split_succeeds x).0 none in absurd (let z : ◌≡◌ {A = ℕ} 0 1 = cc in omega arith)
-  split_workspace {S} {r = divided.Taken cost A t} x none = rw x.workspace (one_for_each (matrix_in file) ws (enough (checked file) x.answers))
+  split_workspace {r = Err why} x none = let (cost, A, t, e) = (split_succeeds x).0 none in absurd (let z : ◌≡◌ {A = ℕ} 0 1 = cc in omega arith)
+  split_workspace {S} {r = Ok (record { cost = cost; side = A; other = t })} x none = rw x.workspace (one_for_each (matrix_in file) ws (enough (checked file) x.answers))
     where
-      tested : (a b : Bool) (other : Divided) → ltb (length ws) (one_entries (matrix_in file)) ≡ b
-          → divided.Taken cost A t ≡ cond a (divided.Refused (refused 11 0)) (cond b (divided.Refused (refused 9 0)) other) → one_entries (matrix_in file) ≤ length ws
+      tested : (a b : Bool) (other : Result Split Refusal) → ltb (length ws) (one_entries (matrix_in file)) ≡ b
+          → Ok (record { cost = cost; side = A; other = t }) ≡ cond a (Err (refused reason.GroupToSplit 0)) (cond b (Err (refused reason.Workspace 0)) other) → one_entries (matrix_in file) ≤ length ws
       tested true b other e w = absurd (let z : ◌≡◌ {A = ℕ} 0 1 = cc in omega arith)
       tested false true other e w = absurd (let z : ◌≡◌ {A = ℕ} 0 1 = cc in omega arith)
       tested false false other e w = omega (arith, ltb-false (length ws) (one_entries (matrix_in file)) e)
 
-      enough : (k : Checked) → divided.Taken cost A t ≡ split.answered k file S (length ws) → one_entries (matrix_in file) ≤ length ws
-      enough (checks.Refused why) w = absurd (let z : ◌≡◌ {A = ℕ} 0 1 = cc in omega arith)
-      enough (checks.Taken n m) w = tested (split.no_group n S) (ltb (length ws) (one_entries (matrix_in file))) (split.split_of (matrix_in file) S) refl w
+      enough : (k : Result Shape Refusal) → Ok (record { cost = cost; side = A; other = t }) ≡ split.answered k file S (length ws) → one_entries (matrix_in file) ≤ length ws
+      enough (Err why) w = absurd (let z : ◌≡◌ {A = ℕ} 0 1 = cc in omega arith)
+      enough (Ok it) w = tested (split.no_group it.n S) (ltb (length ws) (one_entries (matrix_in file))) (split.split_of (matrix_in file) S) refl w
 
 -- ---- the count
 
 -- A workspace that was long enough before C-13 still is.
-pub ones_few : {file : List ℕ} {n m : ℕ} → File file → checks.Taken n m ≡ checked file → one_entries (matrix_in file) ≤ n * m
+pub ones_few : {file : List ℕ} {n m : ℕ} → File file → Ok (shape n m) ≡ checked file → one_entries (matrix_in file) ≤ n * m
 unfolding one_entries sizes
 ones_few {file} {n} {m} f taken =
     let M = matrix_in file in

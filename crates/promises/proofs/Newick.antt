@@ -7,8 +7,6 @@ use Prim.Native.Nat.{ℕ}
 use native.Mathlib.Omega.{arith}
 use lib.ListN.{length}
 use Rattle.record.specs.Bytes.{File}
-use Rattle.names.specs.declared.Listed.{Listed}
-use Rattle.names.specs.declared.Listed.TheVariants as lists
 use Rattle.names.specs.Check as names
 use Rattle.names.proofs.Places.{refusal_there}
 use Rattle.grammar.specs.Trees.{one}
@@ -16,40 +14,40 @@ use Rattle.grammar.proofs.Reading.{reads_only}
 use Rattle.newick.specs.Read as newick
 use Rattle.newick.specs.Held.{SourceTrees}
 use Rattle.newick.proofs.Promises.{refused_reading_trees, one_reading}
-use Rattle.spelling.specs.declared.Spelled.{Spelled}
-use Rattle.spelling.specs.declared.Spelled.TheVariants as spelled
 use Rattle.spelling.specs.Write as spelling
 use Rattle.spelling.proofs.Places.{Small, spelled_small}
 use Rattle.spelling.proofs.Promises.{reads_back}
 use Rattle.flipcut.specs.Packed.{packed_trees, packed_text, ReadsNewickPacked, WritesNewickPacked}
 use Rattle.flipcut.specs.Unpacked.{number_in}
 use Rattle.flipcut.proofs.Unpacking.{trees_number_unpacks, text_number_unpacks}
+use Rattle.std.specs.Prelude.{Result, Ok, Err}
+use Rattle.record.specs.declared.refusal.Refusal.{Refusal}
 
 -- ---- "success returns 0", and only success does
 
-pub checking_names_succeeds : {file : List ℕ} {r : Listed} → names.Checks file r → (names.returned r).number ≡ 0 ↔ ((count : ℕ) × (r ≡ lists.Taken count))
-checking_names_succeeds {r = lists.Taken count} x = (λ z. (count, refl), λ t. refl)
-checking_names_succeeds {file} {r = lists.Refused why} x =
+pub checking_names_succeeds : {file : List ℕ} {r : Result ℕ Refusal} → names.Checks file r → (names.returned r).number ≡ 0 ↔ ((count : ℕ) × (r ≡ Ok count))
+checking_names_succeeds {r = Ok count} x = (λ z. (count, refl), λ t. refl)
+checking_names_succeeds {file} {r = Err why} x =
     (λ z. absurd (omega (arith, z, (refusal_there file x.answers).1)), λ (count, t). absurd (let z : ◌≡◌ {A = ℕ} 0 1 = cc in omega arith))
 
-pub writing_newick_succeeds : {answer list out : List ℕ} {r : Spelled} {out' : List ℕ} → File answer → spelling.Spells answer list out r out'
-    → (spelling.returned r).number ≡ 0 ↔ ((size : ℕ) × (r ≡ spelled.Length size))
-writing_newick_succeeds {r = spelled.Length size} f x = (λ z. (size, refl), λ t. refl)
-writing_newick_succeeds {answer} {list} {out} {r = spelled.Refused why} f x =
-    let (near, some, few) : Small list (spelled.Refused why) = rw (← x.answers) at (spelled_small f list (length out)) in
+pub writing_newick_succeeds : {answer list out : List ℕ} {r : Result ℕ Refusal} {out' : List ℕ} → File answer → spelling.Spells answer list out r out'
+    → (spelling.returned r).number ≡ 0 ↔ ((size : ℕ) × (r ≡ Ok size))
+writing_newick_succeeds {r = Ok size} f x = (λ z. (size, refl), λ t. refl)
+writing_newick_succeeds {answer} {list} {out} {r = Err why} f x =
+    let (near, some, few) : Small list (Err why) = rw (← x.answers) at (spelled_small f list (length out)) in
     (λ z. absurd (omega (arith, z, some)), λ (size, t). absurd (let z : ◌≡◌ {A = ℕ} 0 1 = cc in omega arith))
 
 -- ---- "0 for every other number", "and then all lent memory is as before"
 
-pub refused_names : {file : List ℕ} {r : Listed} → names.Checks file r → (names.returned r).number ≢ 0 → (names.returned r).count ≡ 0
-refused_names {r = lists.Taken count} x some = absurd (some refl)
-refused_names {r = lists.Refused why} x some = refl
+pub refused_names : {file : List ℕ} {r : Result ℕ Refusal} → names.Checks file r → (names.returned r).number ≢ 0 → (names.returned r).count ≡ 0
+refused_names {r = Ok count} x some = absurd (some refl)
+refused_names {r = Err why} x some = refl
 
-pub refused_writing_newick : {answer list out : List ℕ} {r : Spelled} {out' : List ℕ} → spelling.Spells answer list out r out' → (spelling.returned r).number ≢ 0
+pub refused_writing_newick : {answer list out : List ℕ} {r : Result ℕ Refusal} {out' : List ℕ} → spelling.Spells answer list out r out' → (spelling.returned r).number ≢ 0
     → ((spelling.returned r).size ≡ 0) × (out' ≡ out)
 unfolding spelling.output_after
-refused_writing_newick {r = spelled.Length size} x some = absurd (some refl)
-refused_writing_newick {r = spelled.Refused why} x some = (refl, x.output)
+refused_writing_newick {r = Ok size} x some = absurd (some refl)
+refused_writing_newick {r = Err why} x some = (refl, x.output)
 
 pub refused_read_newick_from_c : {text matrix list matrix' list' : List ℕ} {v : ℕ} → ReadsNewickPacked text matrix list v matrix' list' → number_in v ≢ 0
     → (matrix' ≡ matrix) × (list' ≡ list)
@@ -66,14 +64,14 @@ refused_write_newick_from_c f p some =
 
 -- ---- two results that a contract allows coincide
 
-pub one_check_of_names : {file : List ℕ} {r r' : Listed} → names.Checks file r → names.Checks file r' → r ≡ r'
+pub one_check_of_names : {file : List ℕ} {r r' : Result ℕ Refusal} → names.Checks file r → names.Checks file r' → r ≡ r'
 one_check_of_names x y = x.answers ∙ sym y.answers
 
-pub one_writing : {answer list out : List ℕ} {r r' : Spelled} {out' out'' : List ℕ} → spelling.Spells answer list out r out'
+pub one_writing : {answer list out : List ℕ} {r r' : Result ℕ Refusal} {out' out'' : List ℕ} → spelling.Spells answer list out r out'
     → spelling.Spells answer list out r' out'' → (r ≡ r') × (out' ≡ out'')
 one_writing {answer} {list} {out} x y =
     let same = x.answers ∙ sym y.answers in
-    (same, x.output ∙ ap (λ (r : Spelled). spelling.output_after answer list r out) same ∙ sym y.output)
+    (same, x.output ∙ ap (λ (r : Result ℕ Refusal). spelling.output_after answer list r out) same ∙ sym y.output)
 
 pub one_read_newick_from_c : {text matrix list : List ℕ} {v v' : ℕ} {matrix' list' matrix'' list'' : List ℕ} → ReadsNewickPacked text matrix list v matrix' list'
     → ReadsNewickPacked text matrix list v' matrix'' list'' → (v ≡ v') × (matrix' ≡ matrix'') × (list' ≡ list'')

@@ -6,29 +6,29 @@ use Prim.Native.Nat.{ℕ}
 use lib.IntN.{ℤ}
 use Rattle.record.specs.Bytes.{File}
 use Rattle.record.specs.declared.Cursor.{Cursor}
-use Rattle.record.specs.declared.Passed.TheVariants.{At}
 use Rattle.record.proofs.Passing.{through}
 use Rattle.score.specs.Operation.{Scores}
-use Rattle.score.specs.declared.Scored.{Scored}
-use Rattle.matrix.specs.declared.Checked.{Checked}
-use Rattle.matrix.specs.declared.Checked.TheVariants as checks
 use Rattle.matrix.specs.Matrix.{matrix_of}
 use Rattle.matrix.specs.Check.{checked, Checks}
 use Rattle.matrix.proofs.Taken.{same_matrix_same_file}
 use Rattle.answer.specs.declared.Reading.{Reading}
 use Rattle.answer.specs.declared.Verdict.TheVariants as verdict
-use Rattle.answer.specs.declared.Written.{Written}
 use Rattle.answer.specs.Content.{Content, content_in, content_of, file_of}
 use Rattle.answer.specs.Reading.{file_tests, read_tests, reading, listed, filled, Reads}
 use Rattle.answer.specs.Writing.{Writes, put}
 use Rattle.answer.proofs.Taken.{same_content_same_file}
 use Rattle.answer.proofs.RoundTrip.{took, read_content}
-use Rattle.split.specs.declared.Divided.{Divided}
 use Rattle.split.specs.Operation as split
-use Rattle.tree.specs.declared.Built.{Built}
 use Rattle.tree.specs.Build as build
 use Rattle.promises.specs.Held.{Leaves}
 use Rattle.promises.proofs.Answers.{leaves_file}
+use Rattle.std.specs.Prelude.{Result, Ok}
+use Rattle.record.specs.declared.refusal.Refusal.{Refusal}
+use Rattle.matrix.specs.Check.{shape}
+use Rattle.score.specs.declared.Sums.{Sums}
+use Rattle.matrix.specs.declared.Shape.{Shape}
+use Rattle.search.specs.declared.Split.{Split}
+use Rattle.tree.specs.declared.Built.{Built}
 
 -- ---- "one matrix, one answer"
 
@@ -38,25 +38,25 @@ one_answer b b' = leaves_file b ∙ sym (leaves_file b')
 
 -- ---- two results that a contract allows coincide
 
-pub one_check : {file : List ℕ} {r r' : Checked} → Checks file r → Checks file r' → r ≡ r'
+pub one_check : {file : List ℕ} {r r' : Result Shape Refusal} → Checks file r → Checks file r' → r ≡ r'
 one_check x y = x.answers ∙ sym y.answers
 
-pub one_score : {matrix answer : List ℕ} {r r' : Scored} → Scores matrix answer r → Scores matrix answer r' → r ≡ r'
+pub one_score : {matrix answer : List ℕ} {r r' : Result Sums Refusal} → Scores matrix answer r → Scores matrix answer r' → r ≡ r'
 one_score x y = x.answers ∙ sym y.answers
 
-pub one_build : {file out : List ℕ} {ws : List ℤ} {r r' : Built} {ws' ws'' : List ℤ} {out' out'' : List ℕ} → build.Builds file ws out r ws' out' → build.Builds file ws out r' ws'' out''
+pub one_build : {file out : List ℕ} {ws : List ℤ} {r r' : Result Built Refusal} {ws' ws'' : List ℤ} {out' out'' : List ℕ} → build.Builds file ws out r ws' out' → build.Builds file ws out r' ws'' out''
     → (r ≡ r') × (ws' ≡ ws'') × (out' ≡ out'')
 one_build {file} {out} {ws} x y =
     let same = x.answers ∙ sym y.answers in (
       same,
-      x.workspace ∙ ap (λ (r : Built). build.workspace_after file r ws) same ∙ sym y.workspace,
-      x.output ∙ ap (λ (r : Built). build.output_after file r out) same ∙ sym y.output,
+      x.workspace ∙ ap (λ (r : Result Built Refusal). build.workspace_after file r ws) same ∙ sym y.workspace,
+      x.output ∙ ap (λ (r : Result Built Refusal). build.output_after file r out) same ∙ sym y.output,
     )
 
-pub one_split : {file : List ℕ} {S : ℕ} {ws : List ℤ} {r r' : Divided} {ws' ws'' : List ℤ} → split.Splits file S ws r ws' → split.Splits file S ws r' ws'' → (r ≡ r') × (ws' ≡ ws'')
+pub one_split : {file : List ℕ} {S : ℕ} {ws : List ℤ} {r r' : Result Split Refusal} {ws' ws'' : List ℤ} → split.Splits file S ws r ws' → split.Splits file S ws r' ws'' → (r ≡ r') × (ws' ≡ ws'')
 one_split {file} {S} {ws} x y =
     let same = x.answers ∙ sym y.answers in
-    (same, x.workspace ∙ ap (λ (r : Divided). split.workspace_after file r ws) same ∙ sym y.workspace)
+    (same, x.workspace ∙ ap (λ (r : Result Split Refusal). split.workspace_after file r ws) same ∙ sym y.workspace)
 
 pub one_read : {file cs us ds : List ℕ} {r r' : Reading} {cs' us' ds' cs'' us'' ds'' : List ℕ} → Reads file cs us ds r cs' us' ds' → Reads file cs us ds r' cs'' us'' ds''
     → (r ≡ r') × (cs' ≡ cs'') × (us' ≡ us'') × (ds' ≡ ds'')
@@ -69,19 +69,19 @@ one_read {file} {cs} {us} {ds} x y =
       x.lowered_after ∙ ap (λ (r : Reading). filled r.verdict c.lowered ds) same ∙ sym y.lowered_after,
     )
 
-pub one_write : {c : Content} {entries : ℕ} {out : List ℕ} {r r' : Written} {out' out'' : List ℕ} → Writes c entries out r out' → Writes c entries out r' out'' → (r ≡ r') × (out' ≡ out'')
+pub one_write : {c : Content} {entries : ℕ} {out : List ℕ} {r r' : Result ℕ Refusal} {out' out'' : List ℕ} → Writes c entries out r out' → Writes c entries out r' out'' → (r ≡ r') × (out' ≡ out'')
 one_write {c} {entries} {out} x y =
     let same = x.answers ∙ sym y.answers in
-    (same, x.out_after ∙ ap (λ (r : Written). put r (file_of c) out) same ∙ sym y.out_after)
+    (same, x.out_after ∙ ap (λ (r : Result ℕ Refusal). put r (file_of c) out) same ∙ sym y.out_after)
 
 -- ---- "no two accepted files, matrix or answer, carry the same content"
 
-pub no_two_matrix_files : {file file' : List ℕ} {n m n' m' : ℕ} → File file → File file' → checks.Taken n m ≡ checked file → checks.Taken n' m' ≡ checked file'
+pub no_two_matrix_files : {file file' : List ℕ} {n m n' m' : ℕ} → File file → File file' → Ok (shape n m) ≡ checked file → Ok (shape n' m') ≡ checked file'
     → matrix_of file ≡ matrix_of file' → file ≡ file'
 no_two_matrix_files = same_matrix_same_file
 
 -- An answer file that reading takes passes the tests of its file.
-accepted : {file cs us ds : List ℕ} {r : Reading} {cs' us' ds' : List ℕ} → Reads file cs us ds r cs' us' ds' → r.verdict ≡ verdict.Taken → (next : Cursor) × (At next ≡ file_tests file)
+accepted : {file cs us ds : List ℕ} {r : Reading} {cs' us' ds' : List ℕ} → Reads file cs us ds r cs' us' ds' → r.verdict ≡ verdict.Taken → (next : Cursor) × (Ok next ≡ file_tests file)
 unfolding reading read_tests
 accepted {file} {cs} {us} {ds} x t =
     let (here, p) = took (content_in file) (read_tests file (listed cs us ds)) (sym (ap (λ (r : Reading). r.verdict) x.answers) ∙ t) in

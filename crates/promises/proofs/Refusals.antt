@@ -4,49 +4,44 @@ use mathlib.Core.List.{List}
 use mathlib.Core.Logic.{◌≢◌}
 use Prim.Native.Nat.{ℕ}
 use lib.IntN.{ℤ}
-use Rattle.matrix.specs.declared.Checked.{Checked}
-use Rattle.matrix.specs.declared.Checked.TheVariants as checks
 use Rattle.matrix.specs.Check as check
-use Rattle.record.specs.declared.Refusal.{Refusal}
-use Rattle.record.specs.declared.Passed.{Passed}
-use Rattle.record.specs.declared.Passed.TheVariants as passed
+use Rattle.record.specs.declared.refusal.Refusal.{Refusal}
 use Rattle.answer.specs.declared.Reading.{Reading}
 use Rattle.answer.specs.declared.Verdict.{Verdict}
 use Rattle.answer.specs.declared.Verdict.TheVariants as verdict
-use Rattle.answer.specs.declared.Written.{Written}
-use Rattle.answer.specs.declared.Written.TheVariants as written
 use Rattle.answer.specs.Content.{Content, content_in, answer_of}
 use Rattle.answer.specs.Reading as reading
 use Rattle.answer.specs.Writing as writing
-use Rattle.split.specs.declared.Divided.{Divided}
-use Rattle.split.specs.declared.Divided.TheVariants as divided
 use Rattle.split.specs.Operation as split
-use Rattle.tree.specs.declared.Built.{Built}
-use Rattle.tree.specs.declared.Built.TheVariants as built
 use Rattle.tree.specs.Build as build
-use Rattle.score.specs.declared.Scored.{Scored}
-use Rattle.score.specs.declared.Scored.TheVariants as scores
 use Rattle.score.specs.Operation as score
+use Rattle.std.specs.Prelude.{Result, Ok, Err}
+use Rattle.record.specs.Records.{Passed}
+use Rattle.matrix.specs.Check.{shape}
+use Rattle.matrix.specs.declared.Shape.{Shape}
+use Rattle.search.specs.declared.Split.{Split}
+use Rattle.tree.specs.declared.Built.{Built}
+use Rattle.score.specs.declared.Sums.{Sums}
 
-pub refused_check : {file : List ℕ} {r : Checked} → check.Checks file r → (check.returned r).number ≢ 0 → ((check.returned r).n ≡ 0) × ((check.returned r).m ≡ 0)
-refused_check {r = checks.Taken n m} x some = absurd (some refl)
-refused_check {r = checks.Refused why} x some = (refl, refl)
+pub refused_check : {file : List ℕ} {r : Result Shape Refusal} → check.Checks file r → (check.returned r).number ≢ 0 → ((check.returned r).n ≡ 0) × ((check.returned r).m ≡ 0)
+refused_check {r = Ok (shape n m)} x some = absurd (some refl)
+refused_check {r = Err why} x some = (refl, refl)
 
-pub refused_build : {file out : List ℕ} {ws : List ℤ} {r : Built} {ws' : List ℤ} {out' : List ℕ} → build.Builds file ws out r ws' out' → (build.returned r).number ≢ 0
+pub refused_build : {file out : List ℕ} {ws : List ℤ} {r : Result Built Refusal} {ws' : List ℤ} {out' : List ℕ} → build.Builds file ws out r ws' out' → (build.returned r).number ≢ 0
     → ((build.returned r).size ≡ 0) × ((build.returned r).sum ≡ 0) × (ws' ≡ ws) × (out' ≡ out)
 unfolding build.output_after build.workspace_after
-refused_build {r = built.Taken size sum} x some = absurd (some refl)
-refused_build {r = built.Refused why} x some = (refl, refl, x.workspace, x.output)
+refused_build {r = Ok (record { size = size; total = sum })} x some = absurd (some refl)
+refused_build {r = Err why} x some = (refl, refl, x.workspace, x.output)
 
-pub refused_split : {file : List ℕ} {S : ℕ} {ws : List ℤ} {r : Divided} {ws' : List ℤ} → split.Splits file S ws r ws' → (split.returned r).number ≢ 0
+pub refused_split : {file : List ℕ} {S : ℕ} {ws : List ℤ} {r : Result Split Refusal} {ws' : List ℤ} → split.Splits file S ws r ws' → (split.returned r).number ≢ 0
     → ((split.returned r).cost ≡ 0) × ((split.returned r).side ≡ 0) × ((split.returned r).t ≡ 0) × (ws' ≡ ws)
 unfolding split.workspace_after
-refused_split {r = divided.Taken cost A t} x some = absurd (some refl)
-refused_split {r = divided.Refused why} x some = (refl, refl, refl, x.workspace)
+refused_split {r = Ok (record { cost = cost; side = A; other = t })} x some = absurd (some refl)
+refused_split {r = Err why} x some = (refl, refl, refl, x.workspace)
 
-pub refused_score : {matrix answer : List ℕ} {r : Scored} → score.Scores matrix answer r → (score.returned r).number ≢ 0 → ((score.returned r).raises ≡ 0) × ((score.returned r).lowers ≡ 0)
-refused_score {r = scores.Taken up down} x some = absurd (some refl)
-refused_score {r = scores.Refused why} x some = (refl, refl)
+pub refused_score : {matrix answer : List ℕ} {r : Result Sums Refusal} → score.Scores matrix answer r → (score.returned r).number ≢ 0 → ((score.returned r).raises ≡ 0) × ((score.returned r).lowers ≡ 0)
+refused_score {r = Ok (record { raises = up; lowers = down })} x some = absurd (some refl)
+refused_score {r = Err why} x some = (refl, refl)
 
 -- Reading, into three lists or into a list of entries: the value is the empty one, 0 in each of its numbers and places.
 pub refused_reading : (file : List ℕ) (room : ℕ) {r : Reading} → r ≡ reading.reading file room → (reading.returned r).number ≢ 0
@@ -56,8 +51,8 @@ refused_reading file room = go (reading.read_tests file room)
   where
     go : (p : Passed) {r : Reading} → r ≡ reading.answered (content_in file) p → (reading.returned r).number ≢ 0
         → (why : Refusal) × (r.verdict ≡ verdict.Refused why) × (r.answer ≡ answer_of reading.empty)
-    go (passed.At here) e some = absurd (some (ap (λ (x : Reading). (reading.returned x).number) e))
-    go (passed.Refused why) e some = (why, ap (λ (x : Reading). x.verdict) e, ap (λ (x : Reading). x.answer) e)
+    go (Ok here) e some = absurd (some (ap (λ (x : Reading). (reading.returned x).number) e))
+    go (Err why) e some = (why, ap (λ (x : Reading). x.verdict) e, ap (λ (x : Reading). x.answer) e)
 
 pub refused_read : {file cs us ds : List ℕ} {r : Reading} {cs' us' ds' : List ℕ} → reading.Reads file cs us ds r cs' us' ds' → (reading.returned r).number ≢ 0
     → (r.answer ≡ answer_of reading.empty) × (cs' ≡ cs) × (us' ≡ us) × (ds' ≡ ds)
@@ -70,7 +65,7 @@ refused_read {file} {cs} {us} {ds} x some =
       x.lowered_after ∙ ap (λ (v : Verdict). reading.filled v c.lowered ds) e,
     )
 
-pub refused_write : {c : Content} {entries : ℕ} {out : List ℕ} {r : Written} {out' : List ℕ} → writing.Writes c entries out r out' → (writing.returned r).number ≢ 0
+pub refused_write : {c : Content} {entries : ℕ} {out : List ℕ} {r : Result ℕ Refusal} {out' : List ℕ} → writing.Writes c entries out r out' → (writing.returned r).number ≢ 0
     → ((writing.returned r).size ≡ 0) × (out' ≡ out)
-refused_write {r = written.Length size} x some = absurd (some refl)
-refused_write {r = written.Refused why} x some = (refl, x.out_after)
+refused_write {r = Ok size} x some = absurd (some refl)
+refused_write {r = Err why} x some = (refl, x.out_after)

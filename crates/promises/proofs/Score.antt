@@ -13,11 +13,7 @@ use borrow.Author.Tests.{eqb-true, eq-eqb}
 use Rattle.taxa.specs.Sum.{sum, inside}
 use Rattle.taxa.proofs.Sums.{sum_≡}
 use Rattle.record.specs.Bytes.{File}
-use Rattle.record.specs.Records.{refused}
-use Rattle.record.specs.declared.Passed.{Passed}
-use Rattle.record.specs.declared.Passed.TheVariants as passed
-use Rattle.matrix.specs.declared.Checked.{Checked}
-use Rattle.matrix.specs.declared.Checked.TheVariants as checks
+use Rattle.record.specs.Records.{refused, Passed}
 use Rattle.matrix.specs.Matrix.{column_in, matrix_of}
 use Rattle.matrix.specs.Check.{checked}
 use Rattle.matrix.proofs.Taken.{taken_columns, taken_legal, taken_taxa}
@@ -27,39 +23,43 @@ use Rattle.method.specs.Split as method
 use Rattle.split.specs.Columns.{matrix_in}
 use Rattle.split.proofs.Loading.{file_column}
 use Rattle.split.proofs.Soundness.{taken_count, taken_sound}
-use Rattle.score.specs.declared.Scored.{Scored}
-use Rattle.score.specs.declared.Scored.TheVariants as scores
 use Rattle.score.specs.Score.{ColumnScore, Counts, literal_score, column_score, raises_of, lowers_of}
 use Rattle.score.specs.Operation.{NodeIn, node_in, stand_for, raises_in, lowers_in, agreed, after_answer, after_matrix, scored, returned, Scores, Readable}
 use Rattle.score.proofs.Nearest.{node_counts}
 use Rattle.score.proofs.Columns.{same_score, raises_before, lowers_before}
 use Rattle.promises.specs.Pairs.{AcceptedPair}
 use Rattle.promises.proofs.Numbers.{score_succeeds}
+use Rattle.std.specs.Prelude.{Result, Ok, Err}
+use Rattle.record.specs.declared.refusal.Refusal.{Refusal}
+use Rattle.matrix.specs.Check.{shape}
+use Rattle.record.specs.declared.refusal.Reason.TheVariants as reason
+use Rattle.matrix.specs.declared.Shape.{Shape}
+use Rattle.score.specs.declared.Sums.{Sums}
 
 -- Two files of which a score is returned: an accepted pair.
-record Agree (matrix answer : List ℕ) (r : Scored) : Type 0 where
+record Agree (matrix answer : List ℕ) (r : Result Sums Refusal) : Type 0 where
   pair : AcceptedPair matrix answer
-  is : r ≡ scores.Taken (raises_in matrix answer pair.m) (lowers_in matrix answer pair.m)
+  is : r ≡ Ok (record { raises = raises_in matrix answer pair.m; lowers = lowers_in matrix answer pair.m })
 
 module _ (matrix answer : List ℕ) (raises lowers : ℕ) where
-  abbrev told : Scored
-  told = scores.Taken (record { 0 = raises }) (record { 0 = lowers })
+  abbrev told : Result Sums Refusal
+  told = Ok (record { raises = record { 0 = raises }; lowers = record { 0 = lowers } })
 
   tested : (n m : ℕ) → Readable matrix answer n m → (a b : Bool) → eqb (content_in answer).n n ≡ a → eqb (content_in answer).m m ≡ b
-      → told ≡ cond (a && b) (scores.Taken (raises_in matrix answer m) (lowers_in matrix answer m)) (scores.Refused (refused 15 0)) → Agree matrix answer told
+      → told ≡ cond (a && b) (Ok (record { raises = raises_in matrix answer m; lowers = lowers_in matrix answer m })) (Err (refused reason.Differ 0)) → Agree matrix answer told
   tested n m t true true p q e = record { pair = record { n = n; m = m; accepted = t; same_n = eqb-true _ _ p; same_m = eqb-true _ _ q }; is = e }
   tested n m t true false p q e = absurd (let z : ◌≡◌ {A = ℕ} 0 1 = cc in omega arith)
   tested n m t false b p q e = absurd (let z : ◌≡◌ {A = ℕ} 0 1 = cc in omega arith)
 
-  read : (n m : ℕ) → checks.Taken n m ≡ checked matrix → (p : Passed) → p ≡ file_tests answer → told ≡ after_answer matrix answer n m p → Agree matrix answer told
+  read : (n m : ℕ) → Ok (shape n m) ≡ checked matrix → (p : Passed) → p ≡ file_tests answer → told ≡ after_answer matrix answer n m p → Agree matrix answer told
   unfolding agreed
-  read n m t (passed.At here) s e =
+  read n m t (Ok here) s e =
       tested n m (record { taken = t; here = here; passes = s }) (eqb (content_in answer).n n) (eqb (content_in answer).m m) refl refl e
-  read n m t (passed.Refused why) s e = absurd (let z : ◌≡◌ {A = ℕ} 0 1 = cc in omega arith)
+  read n m t (Err why) s e = absurd (let z : ◌≡◌ {A = ℕ} 0 1 = cc in omega arith)
 
-  checked_first : (k : Checked) → k ≡ checked matrix → told ≡ after_matrix matrix answer k → Agree matrix answer told
-  checked_first (checks.Taken n m) t e = read n m t (file_tests answer) refl e
-  checked_first (checks.Refused why) t e = absurd (let z : ◌≡◌ {A = ℕ} 0 1 = cc in omega arith)
+  checked_first : (k : Result Shape Refusal) → k ≡ checked matrix → told ≡ after_matrix matrix answer k → Agree matrix answer told
+  checked_first (Ok it) t e = read it.n it.m t (file_tests answer) refl e
+  checked_first (Err why) t e = absurd (let z : ◌≡◌ {A = ℕ} 0 1 = cc in omega arith)
 
   agree : told ≡ scored matrix answer → Agree matrix answer told
   unfolding scored
@@ -67,20 +67,20 @@ module _ (matrix answer : List ℕ) (raises lowers : ℕ) where
 
 -- Of an accepted pair the score is returned.
 pair_scored : {matrix answer : List ℕ} (p : AcceptedPair matrix answer)
-    → scores.Taken (raises_in matrix answer p.m) (lowers_in matrix answer p.m) ≡ scored matrix answer
+    → Ok (record { raises = raises_in matrix answer p.m; lowers = lowers_in matrix answer p.m }) ≡ scored matrix answer
 unfolding scored agreed
 pair_scored {matrix} {answer} p =
     rw (← p.accepted.taken, ← p.accepted.passes, eq-eqb (content_in answer).n p.n p.same_n, eq-eqb (content_in answer).m p.m p.same_m)
 
-module _ {matrix answer : List ℕ} {r : Scored} (x : Scores matrix answer r) where
+module _ {matrix answer : List ℕ} {r : Result Sums Refusal} (x : Scores matrix answer r) where
   agreeing : (returned r).number ≡ 0 → Agree matrix answer r
   agreeing none = let (raises, lowers, e) = (score_succeeds x).0 none in rw e (agree matrix answer raises lowers (rw e at x.answers))
 
   -- A score is returned of an accepted matrix and an accepted answer of the same n and m, and of no others.
   pub scored_exactly : (returned r).number ≡ 0 ↔ AcceptedPair matrix answer
-  scored_exactly = (λ none. (agreeing none).pair, λ p. ap (λ (s : Scored). (returned s).number) (x.answers ∙ sym (pair_scored p)))
+  scored_exactly = (λ none. (agreeing none).pair, λ p. ap (λ (s : Result Sums Refusal). (returned s).number) (x.answers ∙ sym (pair_scored p)))
 
-module _ {matrix answer : List ℕ} (f : File matrix) {r : Scored} (x : Scores matrix answer r) (none : (returned r).number ≡ 0) where
+module _ {matrix answer : List ℕ} (f : File matrix) {r : Result Sums Refusal} (x : Scores matrix answer r) (none : (returned r).number ≡ 0) where
   -- How many specimens each taxon of the matrix stands for.
   abbrev μ : ℕ → ℕ
   μ = stand_for matrix
@@ -91,7 +91,7 @@ module _ {matrix answer : List ℕ} (f : File matrix) {r : Scored} (x : Scores m
   abbrev pair : AcceptedPair matrix answer
   pair = it.pair
 
-  taken : checks.Taken pair.n pair.m ≡ checked matrix
+  taken : Ok (shape pair.n pair.m) ≡ checked matrix
   taken = pair.accepted.taken
 
   -- "The column's score is the least over all nodes; among equal ones the node with fewest raises counts": there is such a node, for any column.
@@ -130,8 +130,8 @@ module _ {matrix answer : List ℕ} (f : File matrix) {r : Scored} (x : Scores m
         × ((returned r).lowers ≡ sum all_columns_lem (λ j. (column_score μ (column_in matrix j) (node j)).lowers))
     unfolding raises_of lowers_of
     score_is = (
-      ap (λ (s : Scored). (returned s).raises) it.is ∙ summed (λ s. s.raises),
-      ap (λ (s : Scored). (returned s).lowers) it.is ∙ summed (λ s. s.lowers),
+      ap (λ (s : Result Sums Refusal). (returned s).raises) it.is ∙ summed (λ s. s.raises),
+      ap (λ (s : Result Sums Refusal). (returned s).lowers) it.is ∙ summed (λ s. s.lowers),
     )
 
     -- "No other column's score may change" (document 02, C-12): by the score as it was before, the lowers are those returned, and the raises those

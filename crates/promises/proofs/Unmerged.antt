@@ -15,12 +15,12 @@ use Rattle.method.specs.Counted as counted
 use Rattle.method.proofs.Counted.{side_before, cost_before, answer_before}
 use Rattle.split.specs.Columns.{matrix_in}
 use Rattle.split.specs.Operation.{split_of}
-use Rattle.split.specs.declared.Divided.TheVariants.{Taken}
 use Rattle.score.specs.Score.{raises_at, lowers_at}
 use Rattle.score.specs.Operation.{stand_for}
 use Rattle.score.proofs.Columns.{flips_absent}
 use Rattle.promises.specs.Held.{Leaves, groups_in, flips_in, total_in, many, columns_of, multiplicities_of}
 use Rattle.promises.proofs.Answers.{groups_are, flips_are, total_is}
+use Rattle.std.specs.Prelude.{Ok}
 
 module _ (file : List ℕ) (absent : has_multiplicities file ≡ false) where
   none_listed : multiplicities_in file ≡ []
@@ -52,16 +52,16 @@ module _ (file : List ℕ) (absent : has_multiplicities file ≡ false) where
   pub split_as_before : (S : ℕ)
       → let M = matrix_in file in
       let A = counted.side 64 (many M) (columns_of M) S in
-      split_of M S ≡ Taken (counted.division_cost 64 (many M) (columns_of M) S A) A (parted 64 S A)
+      split_of M S ≡ Ok (record { cost = counted.division_cost 64 (many M) (columns_of M) S A; side = A; other = parted 64 S A })
   unfolding split_of
   split_as_before S =
       let M = matrix_in file in
       let same = side_before 64 (many M) (columns_of M) S in
       let cost = cost_before 64 (many M) (columns_of M) S in
       ap
-      (λ (μ : ℕ → ℕ). Taken (split_cost 64 μ (many M) (columns_of M) S) (side 64 μ (many M) (columns_of M) S) (parted 64 S (side 64 μ (many M) (columns_of M) S)))
+      (λ (μ : ℕ → ℕ). Ok (record { cost = split_cost 64 μ (many M) (columns_of M) S; side = side 64 μ (many M) (columns_of M) S; other = parted 64 S (side 64 μ (many M) (columns_of M) S) }))
       all_one
-      ∙ (λ i. Taken (cost i) (same i) (parted 64 S (same i)))
+      ∙ (λ i. Ok (record { cost = cost i; side = same i; other = parted 64 S (same i) }))
 
   -- ---- the score: at any node, the flips of a column are its taxa again
 

@@ -1,17 +1,18 @@
 -- A matrix file and a tree file: what the operation "tree" leaves, and what the operation "flips" compares (document 02, C-18).
-use Rattle.std.specs.Prelude.{◌≡◌, List, ℕ, ◌≤◌, ℤ, take}
+use Rattle.std.specs.Prelude.{◌≡◌, List, ℕ, ◌≤◌, ℤ, take, Result}
 use Rattle.method.specs.Tree.{one_entries}
 use Rattle.split.specs.Columns.{matrix_in}
-use Rattle.tree.specs.declared.Built.{Built}
 use Rattle.tree.specs.Build.{room_for, returned}
 use Rattle.tree.specs.Tree.{GivesTree}
 use Rattle.promises.specs.Pairs.{AcceptedPair}
+use Rattle.record.specs.declared.refusal.Refusal.{Refusal}
+use Rattle.tree.specs.declared.Built.{Built}
 
 -- The operation "tree" took a matrix file, "success returns 0", and these bytes are what it wrote: as many of its output as the length that it returned.
 pub record LeavesTree (file tree : List ℕ) : Type 0 where
   pub ws : List ℤ
   pub out : List ℕ
-  pub r : Built
+  pub r : Result Built Refusal
   pub ws' : List ℤ
   pub out' : List ℕ
   pub gives : GivesTree file ws out r ws' out'

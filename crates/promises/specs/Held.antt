@@ -1,6 +1,6 @@
 -- What people hold: a matrix file, and the answer file that the build leaves, with its groups, its flips and its total. And what the search leaves before
 -- it is cleared.
-use Rattle.std.specs.Prelude.{◌≡◌, List, ◌↔◌, ℕ, ◌<◌, ◌^◌, ℤ, length, take}
+use Rattle.std.specs.Prelude.{◌≡◌, List, ◌↔◌, ℕ, ◌<◌, ◌^◌, ℤ, length, take, Result}
 use Rattle.taxa.specs.Sets.{◌∈◌, multiplicity, low, all}
 use Rattle.method.specs.Flow.{joined, Flow, Reach, arcs, limits}
 use Rattle.method.specs.Split.{Column}
@@ -9,9 +9,10 @@ use Rattle.answer.specs.declared.Answer.{Answer}
 use Rattle.answer.specs.Content.{content_in}
 use Rattle.search.specs.Workspace.{outs, inns}
 use Rattle.split.specs.Groups.{IsSplit}
-use Rattle.tree.specs.declared.Built.{Built}
 use Rattle.tree.specs.Lists as lists
 use Rattle.tree.specs.Build.{returned, Builds}
+use Rattle.record.specs.declared.refusal.Refusal.{Refusal}
+use Rattle.tree.specs.declared.Built.{Built}
 
 -- ---- the flow search
 
@@ -32,7 +33,7 @@ pub record FlowStands (n : ℕ) (μ : ℕ → ℕ) (m : ℕ) (cols : ℕ → Col
 pub record Leaves (file answer : List ℕ) : Type 0 where
   pub ws : List ℤ
   pub out : List ℕ
-  pub r : Built
+  pub r : Result Built Refusal
   pub ws' : List ℤ
   pub out' : List ℕ
   pub builds : Builds file ws out r ws' out'

@@ -4,35 +4,34 @@ use mathlib.Core.Path.{◌≡◌, refl}
 use mathlib.Core.Bool.{Bool, true, false, ◌||◌, cond, true≢false}
 use Prim.Native.Nat.{ℕ}
 use native.Mathlib.Omega.{arith}
-use Rattle.record.specs.Records.{judged, onward}
+use Rattle.record.specs.Records.{judged, onward, Passed}
 use Rattle.record.specs.declared.Cursor.{Cursor}
-use Rattle.record.specs.declared.Refusal.{Refusal}
+use Rattle.record.specs.declared.refusal.Refusal.{Refusal}
 use Rattle.record.specs.declared.Step.{Step}
 use Rattle.record.specs.declared.Step.TheVariants as step
-use Rattle.record.specs.declared.Passed.{Passed}
-use Rattle.record.specs.declared.Passed.TheVariants.{At, Refused}
+use Rattle.std.specs.Prelude.{Ok, Err}
 
 -- Neither of two tests held.
 pub neither : (a b : Bool) → (a || b) ≡ false → (a ≡ false) × (b ≡ false)
 neither true b e = absurd (true≢false e)
 neither false b e = (refl, e)
 
-never : {next : Cursor} {why : Refusal} → At next ≡ Refused why → ⊥
+never : {next : Cursor} {why : Refusal} → Ok next ≡ Err why → ⊥
 never e = let z : ◌≡◌ {A = ℕ} 0 1 = cc in omega arith
 
 module _ {next : Cursor} where
-  pub unless : (b : Bool) (why : Refusal) (p : Passed) → At next ≡ cond b (Refused why) p → (b ≡ false) × (At next ≡ p)
+  pub unless : (b : Bool) (why : Refusal) (p : Passed) → Ok next ≡ cond b (Err why) p → (b ≡ false) × (Ok next ≡ p)
   unless true why p e = absurd (never e)
   unless false why p e = (refl, e)
 
-  pub where_holds : (b : Bool) (p : Passed) (why : Refusal) → At next ≡ cond b p (Refused why) → (b ≡ true) × (At next ≡ p)
+  pub where_holds : (b : Bool) (p : Passed) (why : Refusal) → Ok next ≡ cond b p (Err why) → (b ≡ true) × (Ok next ≡ p)
   where_holds true p why e = (refl, e)
   where_holds false p why e = absurd (never e)
 
-  pub through_step : (s : Step) {judge : ℕ → Cursor → Passed} → At next ≡ judged s judge → (at : ℕ) × (c : Cursor) × (step.Payload at c ≡ s) × (At next ≡ judge at c)
+  pub through_step : (s : Step) {judge : ℕ → Cursor → Passed} → Ok next ≡ judged s judge → (at : ℕ) × (c : Cursor) × (step.Payload at c ≡ s) × (Ok next ≡ judge at c)
   through_step (step.Payload at c) e = (at, c, refl, e)
   through_step (step.Refused why) e = absurd (never e)
 
-  pub through : (p : Passed) {go : Cursor → Passed} → At next ≡ onward p go → (c : Cursor) × (At c ≡ p) × (At next ≡ go c)
-  through (At c) e = (c, refl, e)
-  through (Refused why) e = absurd (never e)
+  pub through : (p : Passed) {go : Cursor → Passed} → Ok next ≡ onward p go → (c : Cursor) × (Ok c ≡ p) × (Ok next ≡ go c)
+  through (Ok c) e = (c, refl, e)
+  through (Err why) e = absurd (never e)

@@ -1,11 +1,12 @@
 -- Reading a record: one law for each way a step can end (`no_opening` .. `payload_at`), also of a record that the file has room for (`other_opening`,
--- `same_opening`) and has no room for (`cut_short`), what a taken step says of the file (`Held`, `held`, `taken-bytes`), that a record that stands in a file is
+-- `same_opening`) and has no room for (`cut_short`), what a taken step says of the file (`Held`, `held`, `record_bytes_lem`), that a record that stands in a file is
 -- taken (`record_taken`), and which record starts at a place (`finds_none`, `finds_kind`).
 use mathlib.Core.Path.{◌≡◌, refl, sym, ap, ◌∙◌}
 use mathlib.Core.Bool.{Bool, true, false, ◌&&◌, cond}
 use mathlib.Core.List.{List, ◌++◌, append_assoc}
 use mathlib.Core.Logic.{◌≢◌}
 use Prim.Native.Nat.{ℕ, ◌+◌, ◌*◌, ◌-◌, ◌<◌, ◌≤◌}
+use Rattle.std.specs.Prelude.{Ok, Err}
 use native.Mathlib.Decide.{ℕ_discrete}
 use native.Mathlib.Omega.{arith}
 use lib.Dec.{ltb, eqb, lit<, lit≤}
@@ -15,27 +16,28 @@ use Rattle.record.specs.Bytes.{number_at, bytes_of, File}
 use Rattle.record.specs.Records.{left, refused, step, opening_of, record_bytes, finds, nothing_after}
 use Rattle.record.specs.declared.Cursor.{Cursor}
 use Rattle.record.specs.declared.Record.{Record}
-use Rattle.record.specs.declared.Refusal.{Refusal}
+use Rattle.record.specs.declared.refusal.Refusal.{Refusal}
 use Rattle.record.specs.declared.Step.{Step}
 use Rattle.record.specs.declared.Step.TheVariants.{Payload, Refused}
-use Rattle.record.specs.declared.Passed.TheVariants as passed
 use Rattle.record.proofs.Numbers.{length_bytes, at_add, at_lt, past, read_bytes, bytes_read}
+use Rattle.record.specs.declared.refusal.Reason.TheVariants as reason
+use Rattle.record.specs.Refusals.{refusal_number}
 
 module _ (file : List ℕ) (at : ℕ) (it : Record) where
-  pub no_opening : left file at < 4 → Refused (refused 1 at) ≡ step file at it
+  pub no_opening : left file at < 4 → Refused (refused reason.CutShort at) ≡ step file at it
   unfolding step
   no_opening h = rw (lt-ltb _ _ h)
 
-  pub other_kind : 4 ≤ left file at → number_at 2 file (at + 2) ≢ it.kind → Refused (refused 2 at) ≡ step file at it
+  pub other_kind : 4 ≤ left file at → number_at 2 file (at + 2) ≢ it.kind → Refused (refused reason.Unexpected at) ≡ step file at it
   unfolding step
   other_kind h k = rw (le-ltb _ _ h, ne_eqb _ _ k)
 
-  pub other_length : 4 ≤ left file at → number_at 2 file (at + 2) ≡ it.kind → number_at 2 file at ≢ it.length → Refused (refused 2 at) ≡ step file at it
+  pub other_length : 4 ≤ left file at → number_at 2 file (at + 2) ≡ it.kind → number_at 2 file at ≢ it.length → Refused (refused reason.Unexpected at) ≡ step file at it
   unfolding step
   other_length h k l = rw (le-ltb _ _ h, eq-eqb _ _ k, ne_eqb _ _ l)
 
   module _ (h : 4 ≤ left file at) (k : number_at 2 file (at + 2) ≡ it.kind) (l : number_at 2 file at ≡ it.length) where
-    pub payload_short : left file at - 4 < it.length → Refused (refused 1 at) ≡ step file at it
+    pub payload_short : left file at - 4 < it.length → Refused (refused reason.CutShort at) ≡ step file at it
     unfolding step
     payload_short b = rw (le-ltb _ _ h, eq-eqb _ _ k, eq-eqb _ _ l, lt-ltb _ _ b)
 
@@ -48,7 +50,7 @@ module _ {file : List ℕ} (f : File file) (at : ℕ) (it : Record) where
   two_numbers : number_at 4 file at ≡ number_at 2 file at + 65536 * number_at 2 file (at + 2)
   two_numbers = at_add 2 2 file at
 
-  pub other_opening : 4 ≤ left file at → number_at 4 file at ≢ it.length + 65536 * it.kind → Refused (refused 2 at) ≡ step file at it
+  pub other_opening : 4 ≤ left file at → number_at 4 file at ≢ it.length + 65536 * it.kind → Refused (refused reason.Unexpected at) ≡ step file at it
   other_opening h d =
       elim (ℕ_discrete (number_at 2 file (at + 2)) it.kind) [
         | yes k ↦ other_length file at it h k (λ l. d (omega (arith, two_numbers)))
@@ -67,12 +69,12 @@ unfolding step
 cut_short file at it short = go (ltb (left file at) 4) (eqb (number_at 2 file (at + 2)) it.kind && eqb (number_at 2 file at) it.length) refl
   where
     go : (few sound : Bool) → ltb (left file at) 4 ≡ few
-        → (why : Refusal) × (Refused why ≡ cond few (Refused (refused 1 at))
-        (cond sound (cond (ltb (left file at - 4) it.length) (Refused (refused 1 at)) (Payload (at + 4) (record { at = at + 4 + it.length })))
-        (Refused (refused 2 at))))
-    go true sound e = (refused 1 at, refl)
-    go false false e = (refused 2 at, refl)
-    go false true e = (refused 1 at, rw (lt-ltb (left file at - 4) it.length (omega (arith, ltb-false (left file at) 4 e))))
+        → (why : Refusal) × (Refused why ≡ cond few (Refused (refused reason.CutShort at))
+        (cond sound (cond (ltb (left file at - 4) it.length) (Refused (refused reason.CutShort at)) (Payload (at + 4) (record { at = at + 4 + it.length })))
+        (Refused (refused reason.Unexpected at))))
+    go true sound e = (refused reason.CutShort at, refl)
+    go false false e = (refused reason.Unexpected at, refl)
+    go false true e = (refused reason.CutShort at, rw (lt-ltb (left file at - 4) it.length (omega (arith, ltb-false (left file at) 4 e))))
 
 -- What a payload that was found says of the file.
 pub record Held (file : List ℕ) (at : ℕ) (it : Record) (b : ℕ) (next : Cursor) : Type 0 where
@@ -92,7 +94,7 @@ held_in file at it = go (ltb (left file at) 4) (eqb (number_at 2 file (at + 2)) 
   where
     go : (few kind len short : Bool) → ltb (left file at) 4 ≡ few → eqb (number_at 2 file (at + 2)) it.kind ≡ kind → eqb (number_at 2 file at) it.length ≡ len
         → ltb (left file at - 4) it.length ≡ short
-        → HeldIn file at it (cond few (Refused (refused 1 at)) (cond (kind && len) (cond short (Refused (refused 1 at)) (Payload (at + 4) (record { at = at + 4 + it.length }))) (Refused (refused 2 at))))
+        → HeldIn file at it (cond few (Refused (refused reason.CutShort at)) (cond (kind && len) (cond short (Refused (refused reason.CutShort at)) (Payload (at + 4) (record { at = at + 4 + it.length }))) (Refused (refused reason.Unexpected at))))
     go true kind len short f k l s = tt
     go false false len short f k l s = tt
     go false true false short f k l s = tt
@@ -106,7 +108,7 @@ held {file} {at} {it} e = rw (← e) at (held_in file at it)
 -- A step moves on by the record's length, or is refused at the record's start, by 1 or 2.
 abbrev pub EndsBy : ℕ → Record → Step → Type 0
 EndsBy at it (Payload b next) = next.at ≡ at + 4 + it.length
-EndsBy at it (Refused why) = (why.place ≡ at) × (0 < why.number) × (why.number ≤ 2)
+EndsBy at it (Refused why) = (why.place ≡ at) × (0 < (refusal_number why.reason)) × ((refusal_number why.reason) ≤ 2)
 
 -- What holds of both ways a test can go holds of what it comes to.
 pub either_way : {A : Type 0} (P : A → Type 0) (b : Bool) {x y : A} → P x → P y → P (cond b x y)
@@ -173,10 +175,10 @@ module _ (file : List ℕ) (at kind : ℕ) where
 
 -- Past the end record.
 module _ (file : List ℕ) (here : Cursor) where
-  pub more_after : 0 < left file here.at → passed.Refused (refused 8 here.at) ≡ nothing_after file here
+  pub more_after : 0 < left file here.at → Err (refused reason.Trailing here.at) ≡ nothing_after file here
   unfolding nothing_after
   more_after h = rw (lt-ltb _ _ h)
 
-  pub none_after : left file here.at ≤ 0 → passed.At here ≡ nothing_after file here
+  pub none_after : left file here.at ≤ 0 → Ok here ≡ nothing_after file here
   unfolding nothing_after
   none_after h = rw (le-ltb _ _ h)

@@ -9,13 +9,14 @@ use Rattle.taxa.specs.Sets.{◌⊆◌, mass, all}
 use Rattle.taxa.proofs.Masses.{mass_⊆, mass_all}
 use Rattle.record.specs.Bytes.{File}
 use Rattle.matrix.specs.declared.Column.{Column}
-use Rattle.matrix.specs.declared.Checked.TheVariants.{Taken}
 use Rattle.matrix.specs.Matrix.{LegalColumn, column_in, matrix_of}
 use Rattle.matrix.specs.Check.{checked}
 use Rattle.matrix.proofs.Taken.{taken_legal, taken_column}
 use Rattle.matrix.proofs.Multiplying.{legal_merged}
 use Rattle.score.specs.inner.Light.{Light}
 use Rattle.score.specs.Operation.{stand_for}
+use Rattle.std.specs.Prelude.{Ok}
+use Rattle.matrix.specs.Check.{shape}
 
 -- A legal column is light where all n taxa are.
 legal_light : {μ : ℕ → ℕ} {n : ℕ} {c : Column} → n ≤ 64 → sum n μ ≤ 127 → LegalColumn n c → Light μ c
@@ -23,7 +24,7 @@ legal_light {μ} {n} few merged l =
     let most : (x : ℕ) → x ⊆ all n → mass 64 μ x ≤ 127 = λ x s. omega (arith, mass_⊆ 64 μ s, mass_all μ few) in
     record { ones_few = most _ l.ones_known; zeros_few = most _ l.zeros_known }
 
-module _ {file : List ℕ} (f : File file) {n m : ℕ} (taken : Taken n m ≡ checked file) where
+module _ {file : List ℕ} (f : File file) {n m : ℕ} (taken : Ok (shape n m) ≡ checked file) where
   pub taken_light : (j : ℕ) → j < m → Light (stand_for file) (column_in file j)
   unfolding matrix_of
   taken_light j b = legal_light (taken_legal f taken).taxa_fit (legal_merged (taken_legal f taken)) (taken_column f taken j b)

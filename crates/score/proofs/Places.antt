@@ -7,12 +7,8 @@ use native.Mathlib.Omega.{arith}
 use lib.Dec.{eqb, lit≤}
 use Rattle.taxa.proofs.Sums.{sum_bound}
 use Rattle.record.specs.Bytes.{File}
-use Rattle.record.specs.declared.Passed.{Passed}
-use Rattle.record.specs.declared.Passed.TheVariants.{At, Refused}
 use Rattle.record.proofs.Steps.{either_way}
 use Rattle.record.proofs.Places.{By}
-use Rattle.matrix.specs.declared.Checked.{Checked}
-use Rattle.matrix.specs.declared.Checked.TheVariants as checks
 use Rattle.matrix.specs.Matrix.{column_in}
 use Rattle.matrix.specs.Check.{checked}
 use Rattle.matrix.proofs.Places.{refusal_small}
@@ -20,21 +16,26 @@ use Rattle.matrix.proofs.Taken.{taken_legal, taken_columns, taken_column}
 use Rattle.answer.specs.Content.{content_in}
 use Rattle.answer.specs.Reading.{file_tests}
 use Rattle.answer.proofs.Places.{largest, Few, answer_by}
-use Rattle.score.specs.declared.Scored.{Scored}
-use Rattle.score.specs.declared.Scored.TheVariants as scores
 use Rattle.score.specs.Score.{column_score, raises_of, lowers_of}
 use Rattle.score.specs.inner.Light.{column_most}
 use Rattle.score.specs.Operation.{node_in, stand_for, agreed, after_answer, after_matrix, scored}
 use Rattle.score.proofs.Columns.{column_small}
 use Rattle.score.proofs.Light.{taken_light}
+use Rattle.std.specs.Prelude.{Result, Ok, Err}
+use Rattle.record.specs.declared.refusal.Refusal.{Refusal}
+use Rattle.record.specs.Records.{Passed}
+use Rattle.matrix.specs.Check.{shape}
+use Rattle.record.specs.Refusals.{refusal_number}
+use Rattle.matrix.specs.declared.Shape.{Shape}
+use Rattle.score.specs.declared.Sums.{Sums}
 
 -- What fits the bits that C gets.
-abbrev pub Small : Scored → Type 0
-Small (scores.Taken up down) = (up.0 < 2 ^ 31) × (down.0 < 2 ^ 31)
-Small (scores.Refused why) = (why.place ≤ largest) × (why.number ≤ 21)
+abbrev pub Small : Result Sums Refusal → Type 0
+Small (Ok it) = (it.raises.0 < 2 ^ 31) × (it.lowers.0 < 2 ^ 31)
+Small (Err why) = (why.place ≤ largest) × ((refusal_number why.reason) ≤ 21)
 
 module _ {matrix : List ℕ} (f : File matrix) (answer : List ℕ) where
-  taken_small : {n m : ℕ} → checks.Taken n m ≡ checked matrix → Small (agreed matrix answer n m)
+  taken_small : {n m : ℕ} → Ok (shape n m) ≡ checked matrix → Small (agreed matrix answer n m)
   unfolding agreed raises_of lowers_of
   taken_small {n} {m} taken =
       let μ = stand_for matrix in
@@ -45,14 +46,14 @@ module _ {matrix : List ℕ} (f : File matrix) (answer : List ℕ) where
       let down = sum_bound m column_most (λ j l. (small j l).1) in
       either_way Small (eqb (content_in answer).n n && eqb (content_in answer).m m) (omega (arith, up), omega (arith, down)) (lit≤ tt, lit≤ tt)
 
-  after : {n m : ℕ} → checks.Taken n m ≡ checked matrix → (p : Passed) → By Few largest p → Small (after_answer matrix answer n m p)
-  after taken (At here) b = taken_small taken
-  after taken (Refused why) (near, few) = (near, omega arith)
+  after : {n m : ℕ} → Ok (shape n m) ≡ checked matrix → (p : Passed) → By Few largest p → Small (after_answer matrix answer n m p)
+  after taken (Ok here) b = taken_small taken
+  after taken (Err why) (near, few) = (near, omega arith)
 
   pub score_small : Small (scored matrix answer)
   unfolding scored
   score_small = go (checked matrix) refl
     where
-      go : (a : Checked) → a ≡ checked matrix → Small (after_matrix matrix answer a)
-      go (checks.Taken n m) e = after e (file_tests answer) (answer_by answer)
-      go (checks.Refused why) e = let (near, some, small, other) = refusal_small matrix e in (omega arith, small)
+      go : (a : Result Shape Refusal) → a ≡ checked matrix → Small (after_matrix matrix answer a)
+      go (Ok it) e = after e (file_tests answer) (answer_by answer)
+      go (Err why) e = let (near, some, small, other) = refusal_small matrix e in (omega arith, small)

@@ -7,10 +7,8 @@ use lib.ListN.{get_or, replicate}
 use borrow.Author.Tests.{eq-eqb, ne_eqb}
 use Rattle.record.specs.Records.{refused}
 use Rattle.record.specs.declared.Cursor.{Cursor}
-use Rattle.record.specs.declared.Refusal.{Refusal}
-use Rattle.record.specs.declared.Passed.TheVariants as passed
+use Rattle.record.specs.declared.refusal.Refusal.{Refusal}
 use Rattle.matrix.specs.declared.Column.{Column}
-use Rattle.matrix.specs.declared.Checked.TheVariants as checks
 use Rattle.matrix.specs.Matrix.{column_in}
 use Rattle.matrix.specs.Check.{checked}
 use Rattle.answer.specs.declared.Answer.{Answer}
@@ -20,10 +18,12 @@ use Rattle.answer.proofs.Runs.{at_front}
 use Rattle.answer.proofs.Walks.{length_taxa}
 use Rattle.score.specs.declared.Raises.{Raises}
 use Rattle.score.specs.declared.Lowers.{Lowers}
-use Rattle.score.specs.declared.Scored.{Scored}
-use Rattle.score.specs.declared.Scored.TheVariants.{Taken, Refused}
 use Rattle.score.specs.Score.{leaf, nearest_in, node_for, raises_of, lowers_of}
 use Rattle.score.specs.Operation.{node_in, stand_for, agreed, scored, returned, Scores}
+use Rattle.std.specs.Prelude.{Result, Ok, Err}
+use Rattle.matrix.specs.Check.{shape}
+use Rattle.record.specs.declared.refusal.Reason.TheVariants as reason
+use Rattle.score.specs.declared.Sums.{Sums}
 
 -- ---- the groups in a value's places
 
@@ -45,39 +45,39 @@ same_node μ answer n value e = rw (← e, value) (padded_node μ answer (conten
 -- ---- two files that were read
 
 module _ (matrix answer : List ℕ) (n m : ℕ) {a : Answer} (value : a ≡ answer_of (content_in answer)) where
-  pub other_taxa : (a.n ≡ n → ⊥) → Refused (refused 15 0) ≡ agreed matrix answer n m
+  pub other_taxa : (a.n ≡ n → ⊥) → Err (refused reason.Differ 0) ≡ agreed matrix answer n m
   unfolding agreed
   other_taxa h = rw (ne_eqb (content_in answer).n n (rw value at h))
 
-  pub other_columns : a.n ≡ n → (a.m ≡ m → ⊥) → Refused (refused 15 0) ≡ agreed matrix answer n m
+  pub other_columns : a.n ≡ n → (a.m ≡ m → ⊥) → Err (refused reason.Differ 0) ≡ agreed matrix answer n m
   unfolding agreed
   other_columns e h = rw (eq-eqb (content_in answer).n n (rw value at e), ne_eqb (content_in answer).m m (rw value at h))
 
   pub taken_row : {μ : ℕ → ℕ} {up : Raises} {down : Lowers} → μ ≡ stand_for matrix → a.n ≡ n → a.m ≡ m
       → up.0 ≡ raises_of μ (column_in matrix) (node_for μ n a.taxa a.groups) m → down.0 ≡ lowers_of μ (column_in matrix) (node_for μ n a.taxa a.groups) m
-      → Taken up down ≡ agreed matrix answer n m
+      → Ok (record { raises = up; lowers = down }) ≡ agreed matrix answer n m
   unfolding agreed
   taken_row {μ} stand e e' up_is down_is =
       let node = same_node μ answer n value e in
       let up' = up_is ∙ ap (λ (f : Column → ℕ). raises_of μ (column_in matrix) f m) node ∙ ap (λ (ν : ℕ → ℕ). raises_of ν (column_in matrix) (node_in ν answer) m) stand in
       let down' = down_is ∙ ap (λ (f : Column → ℕ). lowers_of μ (column_in matrix) f m) node ∙ ap (λ (ν : ℕ → ℕ). lowers_of ν (column_in matrix) (node_in ν answer) m) stand in
-      rw (eq-eqb (content_in answer).n n (rw value at e), eq-eqb (content_in answer).m m (rw value at e')) (λ i. Taken (record { 0 = up' i }) (record { 0 = down' i }))
+      rw (eq-eqb (content_in answer).n n (rw value at e), eq-eqb (content_in answer).m m (rw value at e')) (λ i. Ok it)
 
 -- ---- the operation
 
 module _ (matrix answer : List ℕ) where
-  numbered : {r : Scored} → r ≡ scored matrix answer → Scores matrix answer r
+  numbered : {r : Result Sums Refusal} → r ≡ scored matrix answer → Scores matrix answer r
   numbered e = record { answers = e; numbers = ap returned e }
 
-  pub matrix_refused : {why : Refusal} → checks.Refused why ≡ checked matrix → Scores matrix answer (Refused why)
+  pub matrix_refused : {why : Refusal} → Err why ≡ checked matrix → Scores matrix answer (Err why)
   unfolding scored
   matrix_refused e = numbered (rw (← e))
 
-  module _ {n m : ℕ} (taken : checks.Taken n m ≡ checked matrix) where
-    pub answer_refused : {why : Refusal} → passed.Refused why ≡ file_tests answer → Scores matrix answer (Refused why)
+  module _ {n m : ℕ} (taken : Ok (shape n m) ≡ checked matrix) where
+    pub answer_refused : {why : Refusal} → Err why ≡ file_tests answer → Scores matrix answer (Err why)
     unfolding scored
     answer_refused e = numbered (rw (← taken, ← e))
 
-    pub both_read : {here : Cursor} {r : Scored} → passed.At here ≡ file_tests answer → r ≡ agreed matrix answer n m → Scores matrix answer r
+    pub both_read : {here : Cursor} {r : Result Sums Refusal} → Ok here ≡ file_tests answer → r ≡ agreed matrix answer n m → Scores matrix answer r
     unfolding scored
     both_read e s = numbered (rw (← taken, ← e) s)

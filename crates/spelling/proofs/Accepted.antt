@@ -18,10 +18,10 @@ use Rattle.grammar.specs.Limits.{Distinct, end, next}
 use Rattle.grammar.proofs.Numbering.{apart}
 use Rattle.clades.specs.Shows.{Groups}
 use Rattle.clades.specs.Clades.{NamesFor}
-use Rattle.names.specs.declared.Listed.TheVariants.{Taken}
 use Rattle.names.specs.Check.{names_in, checked}
 use Rattle.names.proofs.Taken.{taken_legal, taken_count}
 use Rattle.spelling.specs.Write.{name_in}
+use Rattle.std.specs.Prelude.{Ok}
 
 -- ---- the answer
 
@@ -62,7 +62,7 @@ differ_at i j (next {m} {ns} {ms} x d) l k e = go i j l k e (λ i j. differ_at i
     go (suc i) zero l k e ih = absurd (apart d (Memᴰ.append_right ns (Memᴰ.head e)) (get_or_in [] ms i (omega arith)))
     go (suc i) (suc j) l k e ih = ap suc (ih i j (omega arith) (omega arith) e)
 
-pub names_for : (list : List ℕ) {n : ℕ} → Taken n ≡ checked list → NamesFor (name_in list) (all n)
+pub names_for : (list : List ℕ) {n : ℕ} → Ok n ≡ checked list → NamesFor (name_in list) (all n)
 names_for list {n} taken =
     let (e, long) = taken_count list taken in
     let legal = taken_legal list e in

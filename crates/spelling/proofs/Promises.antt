@@ -29,11 +29,11 @@ use Rattle.clades.proofs.Drawn.{drawn_shows}
 use Rattle.clades.proofs.Only as trees
 use Rattle.clades.proofs.Exactly.{clades_exactly}
 use Rattle.clades.proofs.Back as back
-use Rattle.spelling.specs.declared.Spelled.{Spelled}
-use Rattle.spelling.specs.declared.Spelled.TheVariants.{Length}
 use Rattle.spelling.specs.Write.{name_in, tree_of, text_of, after_both, spelled, output_after, Accepted, Spells}
 use Rattle.spelling.proofs.Accepted.{lawful_groups, lawful_root, lawful_inside, names_for}
 use Rattle.spelling.proofs.Lengths.{text_short}
+use Rattle.std.specs.Prelude.{Result, Ok}
+use Rattle.record.specs.declared.refusal.Refusal.{Refusal}
 
 module _ {answer list : List ℕ} (f : File answer) (a : Accepted answer list) where
   abbrev c : Content
@@ -77,10 +77,10 @@ module _ {answer list : List ℕ} (f : File answer) (a : Accepted answer list) w
   never_longer = text_short few groups.laminar named shows_the_groups
 
   -- Where there is room, it is what the output begins with.
-  pub written_out : {out out' : List ℕ} {r : Spelled} → Spells answer list out r out' → length (text_of answer list) ≤ length out
-      → (r ≡ Length (length (text_of answer list))) × (take (length (text_of answer list)) out' ≡ text_of answer list)
+  pub written_out : {out out' : List ℕ} {r : Result ℕ Refusal} → Spells answer list out r out' → length (text_of answer list) ≤ length out
+      → (r ≡ Ok (length (text_of answer list))) × (take (length (text_of answer list)) out' ≡ text_of answer list)
   unfolding spelled after_both output_after
   written_out {out} {r = r} s l =
       let size = length (text_of answer list) in
-      let e : r ≡ Length size = s.answers ∙ rw (← a.passes, ← a.taken, eq-eqb c.n c.n refl, le-ltb (length out) size l) in
-      (e, ap (take size) (s.output ∙ ap (λ (x : Spelled). output_after answer list x out) e) ∙ front_is (text_of answer list) out size refl)
+      let e : r ≡ Ok size = s.answers ∙ rw (← a.passes, ← a.taken, eq-eqb c.n c.n refl, le-ltb (length out) size l) in
+      (e, ap (take size) (s.output ∙ ap (λ (x : Result ℕ Refusal). output_after answer list x out) e) ∙ front_is (text_of answer list) out size refl)

@@ -10,23 +10,21 @@ use Rattle.taxa.proofs.Members.{all_fits}
 use Rattle.record.specs.Bytes.{File, over}
 use Rattle.record.specs.Records.{refused}
 use Rattle.record.specs.declared.Cursor.{Cursor}
-use Rattle.record.specs.declared.Refusal.{Refusal}
-use Rattle.record.specs.declared.Passed.TheVariants as passed
+use Rattle.record.specs.declared.refusal.Refusal.{Refusal}
 use Rattle.answer.specs.declared.Answer.{Answer}
 use Rattle.answer.specs.Content.{content_in, answer_of}
 use Rattle.answer.specs.Reading.{file_tests}
 use Rattle.answer.proofs.Accepted.{taken_lawful}
 use Rattle.answer.proofs.Outcomes.{laid, groups_placed, groups_first}
 use Rattle.clades.proofs.Drawn.{drawn_shows}
-use Rattle.names.specs.declared.Listed.TheVariants as lists
 use Rattle.names.specs.Check.{checked}
 use Rattle.names.proofs.Taken.{taken_count}
-use Rattle.spelling.specs.declared.Spelled.{Spelled}
-use Rattle.spelling.specs.declared.Spelled.TheVariants.{Length, Refused}
 use Rattle.spelling.specs.Write.{name_in, text_of, after_both, spelled, output_after, returned, Spells}
 use Rattle.spelling.specs.inner.Spell.{text_for, groups_of, Readable, Tellable}
 use Rattle.spelling.proofs.Accepted.{lawful_groups, lawful_root, names_for}
 use Rattle.spelling.proofs.Lengths.{text_short}
+use Rattle.std.specs.Prelude.{Result, Ok, Err}
+use Rattle.record.specs.declared.refusal.Reason.TheVariants as reason
 
 -- ---- both files were read
 
@@ -35,10 +33,10 @@ module _ (answer list : List ℕ) (count : ℕ) {a : Answer} (value : a ≡ answ
   text_for_lem = ap (λ gs. text_for gs list a.n) (groups_first answer value) ∙ ap (λ (v : Answer). text_for (content_in answer).taxa list v.n) value
 
   -- What is to be shown of each return.
-  abbrev Row : List ℕ → Spelled → List ℕ → Type 0
+  abbrev Row : List ℕ → Result ℕ Refusal → List ℕ → Type 0
   Row out r out' = (r ≡ after_both answer list count (length out)) × (out' ≡ output_after answer list r out)
 
-  pub other_count : (out : List ℕ) → (count ≡ a.n → ⊥) → Row out (Refused (refused 15 0)) out
+  pub other_count : (out : List ℕ) → (count ≡ a.n → ⊥) → Row out (Err (refused reason.Differ 0)) out
   unfolding after_both output_after
   other_count out h = (rw (ne_eqb count (content_in answer).n (rw value at h)), refl)
 
@@ -46,18 +44,18 @@ module _ (answer list : List ℕ) (count : ℕ) {a : Answer} (value : a ≡ answ
     is_n : count ≡ (content_in answer).n
     is_n = rw value at same
 
-    pub no_room : (out : List ℕ) {size : ℕ} → size ≡ length (text_for (groups_of a) list a.n) → length out < size → Row out (Refused (refused 10 0)) out
+    pub no_room : (out : List ℕ) {size : ℕ} → size ≡ length (text_for (groups_of a) list a.n) → length out < size → Row out (Err (refused reason.Room 0)) out
     unfolding after_both output_after
     no_room out e l =
         rw (eq-eqb count (content_in answer).n is_n, lt-ltb (length out) (length (text_of answer list)) (omega (arith, ap length text_for_lem))) (refl, refl)
 
     pub wrote : (out : List ℕ) {size : ℕ} {out' : List ℕ} → size ≡ length (text_for (groups_of a) list a.n) → size ≤ length out
         → out' ≡ over (text_for (groups_of a) list a.n) 0 out
-        → Row out (Length size) out'
+        → Row out (Ok size) out'
     unfolding after_both output_after
     wrote out e l o = (
       rw (eq-eqb count (content_in answer).n is_n, le-ltb (length out) (length (text_of answer list)) (omega (arith, ap length text_for_lem)))
-          (ap Length (e ∙ ap length text_for_lem)),
+          (ap Ok (e ∙ ap length text_for_lem)),
       o ∙ ap (λ s. over s 0 out) text_for_lem,
     )
 
@@ -81,19 +79,19 @@ module _ (answer list : List ℕ) (count : ℕ) {a : Answer} (value : a ≡ answ
 -- ---- the operation
 
 module _ (answer list out : List ℕ) where
-  numbered : {r : Spelled} {out' : List ℕ} → r ≡ spelled answer list (length out) → out' ≡ output_after answer list r out → Spells answer list out r out'
+  numbered : {r : Result ℕ Refusal} {out' : List ℕ} → r ≡ spelled answer list (length out) → out' ≡ output_after answer list r out → Spells answer list out r out'
   numbered e o = record { answers = e; numbers = ap returned e; output = o }
 
-  pub answer_refused : {why : Refusal} → passed.Refused why ≡ file_tests answer → Spells answer list out (Refused why) out
+  pub answer_refused : {why : Refusal} → Err why ≡ file_tests answer → Spells answer list out (Err why) out
   unfolding spelled output_after
   answer_refused e = numbered (rw (← e)) refl
 
-  pub list_refused : {here : Cursor} {why : Refusal} → passed.At here ≡ file_tests answer → lists.Refused why ≡ checked list
-      → Spells answer list out (Refused why) out
+  pub list_refused : {here : Cursor} {why : Refusal} → Ok here ≡ file_tests answer → Err why ≡ checked list
+      → Spells answer list out (Err why) out
   unfolding spelled output_after
   list_refused e l = numbered (rw (← e, ← l)) refl
 
-  pub both_read : {count : ℕ} → Readable answer list count → {r : Spelled} {out' : List ℕ} → r ≡ after_both answer list count (length out)
+  pub both_read : {count : ℕ} → Readable answer list count → {r : Result ℕ Refusal} {out' : List ℕ} → r ≡ after_both answer list count (length out)
       → out' ≡ output_after answer list r out → Spells answer list out r out'
   unfolding spelled
   both_read b e o = numbered (rw (← b.passes, ← b.taken) e) o

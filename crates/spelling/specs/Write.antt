@@ -1,23 +1,20 @@
 -- The operation "write as Newick": an answer file, a name list file and a lent output. "A writer gives an answer and a name list back as Newick, without
 -- blanks, parts by lowest taxon" (document 02, C-11).
-use Rattle.std.specs.Prelude.{◌≡◌, cond, List, [], ℕ, ltb, eqb, length, get_or}
+use Rattle.std.specs.Prelude.{◌≡◌, cond, List, [], ℕ, ltb, eqb, length, get_or, Result, Ok, Err}
 use Rattle.taxa.specs.Sets.{all}
 use Rattle.record.specs.Bytes.{over}
-use Rattle.record.specs.Records.{refused}
+use Rattle.record.specs.Records.{refused, Passed}
 use Rattle.record.specs.declared.Cursor.{Cursor}
-use Rattle.record.specs.declared.Passed.{Passed}
-use Rattle.record.specs.declared.Passed.TheVariants as passed
 use Rattle.answer.specs.Content.{content_in}
 use Rattle.answer.specs.Reading.{file_tests}
 use Rattle.grammar.specs.Trees.{Tree, one}
 use Rattle.grammar.specs.Columns.{Bytes}
 use Rattle.grammar.specs.Writer.{written}
 use Rattle.clades.specs.Draw.{drawn}
-use Rattle.names.specs.declared.Listed.{Listed}
-use Rattle.names.specs.declared.Listed.TheVariants as lists
 use Rattle.names.specs.Check.{names_in, checked}
-use Rattle.spelling.specs.declared.Spelled.{Spelled}
-use Rattle.spelling.specs.declared.Spelled.TheVariants.{Length, Refused}
+use Rattle.record.specs.declared.refusal.Refusal.{Refusal}
+use Rattle.record.specs.declared.refusal.Reason.TheVariants as reason
+use Rattle.record.specs.Refusals.{refusal_number}
 
 -- The name of taxon i by a name list file.
 abbrev pub name_in : List ℕ → ℕ → Bytes
@@ -32,30 +29,30 @@ abbrev pub text_of : List ℕ → List ℕ → List ℕ
 text_of answer list = written (one (tree_of answer list))
 
 -- Both files were read: "then 15 at 0 where it has not n names", and last 10, "output shorter than the bytes to write"; `room` is the output's length.
-unfoldable pub after_both : List ℕ → List ℕ → ℕ → ℕ → Spelled
+unfoldable pub after_both : List ℕ → List ℕ → ℕ → ℕ → Result ℕ Refusal
 after_both answer list count room =
     cond (eqb count (content_in answer).n)
-    (cond (ltb room (length (text_of answer list))) (Refused (refused 10 0)) (Length (length (text_of answer list))))
-    (Refused (refused 15 0))
+    (cond (ltb room (length (text_of answer list))) (Err (refused reason.Room 0)) (Ok (length (text_of answer list))))
+    (Err (refused reason.Differ 0))
 
 -- The answer was read: the list is.
-abbrev pub after_list : List ℕ → List ℕ → ℕ → Listed → Spelled
-after_list answer list room (lists.Taken count) = after_both answer list count room
-after_list answer list room (lists.Refused why) = Refused why
+abbrev pub after_list : List ℕ → List ℕ → ℕ → Result ℕ Refusal → Result ℕ Refusal
+after_list answer list room (Ok count) = after_both answer list count room
+after_list answer list room (Err why) = Err why
 
 -- "a refused answer gives its place in the answer", and comes first.
-abbrev pub after_answer : List ℕ → List ℕ → ℕ → Passed → Spelled
-after_answer answer list room (passed.At here) = after_list answer list room (checked list)
-after_answer answer list room (passed.Refused why) = Refused why
+abbrev pub after_answer : List ℕ → List ℕ → ℕ → Passed → Result ℕ Refusal
+after_answer answer list room (Ok here) = after_list answer list room (checked list)
+after_answer answer list room (Err why) = Err why
 
 -- What writing the two files answers.
-unfoldable pub spelled : List ℕ → List ℕ → ℕ → Spelled
+unfoldable pub spelled : List ℕ → List ℕ → ℕ → Result ℕ Refusal
 spelled answer list room = after_answer answer list room (file_tests answer)
 
 -- "A refusal [..] changes no lent memory." "Output past the written length stays as it was."
-unfoldable pub output_after : List ℕ → List ℕ → Spelled → List ℕ → List ℕ
-output_after answer list (Refused why) out = out
-output_after answer list (Length size) out = over (text_of answer list) 0 out
+unfoldable pub output_after : List ℕ → List ℕ → Result ℕ Refusal → List ℕ → List ℕ
+output_after answer list (Err why) out = out
+output_after answer list (Ok size) out = over (text_of answer list) 0 out
 
 -- Document 01's numbers for each case: "a refusal returns its number and place, 0 for every other number"; success returns 0, place 0 and the length.
 pub record Returned : Type 0 where
@@ -64,9 +61,9 @@ pub record Returned : Type 0 where
   pub size : ℕ
 
 -- These numbers, by the case.
-abbrev pub returned : Spelled → Returned
-returned (Length size) = record { number = 0; place = 0; size = size }
-returned (Refused why) = record { number = why.number; place = why.place; size = 0 }
+abbrev pub returned : Result ℕ Refusal → Returned
+returned (Ok size) = record { number = 0; place = 0; size = size }
+returned (Err why) = record { number = refusal_number why.reason; place = why.place; size = 0 }
 
 -- The numbers that writing the two files returns.
 abbrev pub write_numbers : List ℕ → List ℕ → ℕ → Returned
@@ -75,11 +72,11 @@ write_numbers answer list room = returned (spelled answer list room)
 -- Both files are accepted, the answer with its n and the list with as many names.
 pub record Accepted (answer list : List ℕ) : Type 0 where
   pub here : Cursor
-  pub passes : passed.At here ≡ file_tests answer
-  pub taken : lists.Taken (content_in answer).n ≡ checked list
+  pub passes : Ok here ≡ file_tests answer
+  pub taken : Ok (content_in answer).n ≡ checked list
 
 -- What writing promises of its answer and of the output at the end.
-pub record Spells (answer list out : List ℕ) (r : Spelled) (out' : List ℕ) : Type 0 where
+pub record Spells (answer list out : List ℕ) (r : Result ℕ Refusal) (out' : List ℕ) : Type 0 where
   pub answers : r ≡ spelled answer list (length out)
   pub numbers : returned r ≡ write_numbers answer list (length out)
   pub output : out' ≡ output_after answer list r out

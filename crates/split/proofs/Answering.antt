@@ -13,9 +13,7 @@ use Rattle.taxa.proofs.Members.{⊆-≤, all_<, within_⊆}
 use Rattle.taxa.proofs.Counts.{count_width}
 use Rattle.record.specs.Bytes.{File}
 use Rattle.record.specs.Records.{refused}
-use Rattle.record.specs.declared.Refusal.{Refusal}
-use Rattle.matrix.specs.declared.Checked.{Checked}
-use Rattle.matrix.specs.declared.Checked.TheVariants as checks
+use Rattle.record.specs.declared.refusal.Refusal.{Refusal}
 use Rattle.matrix.specs.Check.{checked}
 use Rattle.method.specs.Split.{Column, side, split_cost, parted}
 use Rattle.method.specs.Flow.{arc_count}
@@ -24,25 +22,28 @@ use Rattle.method.proofs.Arcs.{arcs_ones}
 use Rattle.search.specs.Search.{Given}
 use Rattle.search.specs.Workspace.{cleared}
 use Rattle.search.proofs.Workspace.{clear_less, cleared_clear}
-use Rattle.split.specs.declared.Divided.{Divided as Answer}
-use Rattle.split.specs.declared.Divided.TheVariants.{Taken, Refused}
 use Rattle.split.specs.inner.Handing.{Parallel, Splittable}
 use Rattle.split.specs.Columns.{matrix_in}
 use Rattle.split.specs.Groups.{IsSplit}
 use Rattle.split.specs.Operation.{split_of, no_group, answered, divided, workspace_after, returned, split_numbers}
 use Rattle.split.proofs.Soundness.{taken_count, few_taxa, few_columns}
+use Rattle.std.specs.Prelude.{Result, Ok, Err}
+use Rattle.matrix.specs.Check.{shape}
+use Rattle.record.specs.declared.refusal.Reason.TheVariants as reason
+use Rattle.matrix.specs.declared.Shape.{Shape}
+use Rattle.search.specs.declared.Split.{Split}
 
 -- ---- the rows of the table
 
 module _ (n m : ℕ) (file : List ℕ) (S room : ℕ) where
-  no_group_lem : no_group n S ≡ true → Refused (refused 11 0) ≡ answered (checks.Taken n m) file S room
+  no_group_lem : no_group n S ≡ true → Err (refused reason.GroupToSplit 0) ≡ answered (Ok (shape n m)) file S room
   unfolding answered
   no_group_lem e = rw e
 
-  pub one_taxon : count 64 S < 2 → Refused (refused 11 0) ≡ answered (checks.Taken n m) file S room
+  pub one_taxon : count 64 S < 2 → Err (refused reason.GroupToSplit 0) ≡ answered (Ok (shape n m)) file S room
   one_taxon l = no_group_lem (rw (lt-ltb (count 64 S) 2 l))
 
-  pub unknown_taxon : within S (all n) ≡ false → Refused (refused 11 0) ≡ answered (checks.Taken n m) file S room
+  pub unknown_taxon : within S (all n) ≡ false → Err (refused reason.GroupToSplit 0) ≡ answered (Ok (shape n m)) file S room
   unknown_taxon e = no_group_lem (rw e (either (ltb (count 64 S) 2)))
     where
       either : (p : Bool) → (p || true) ≡ true
@@ -52,11 +53,11 @@ module _ (n m : ℕ) (file : List ℕ) (S room : ℕ) where
   a_group : 2 ≤ count 64 S → within S (all n) ≡ true → no_group n S ≡ false
   a_group two known = rw (le-ltb (count 64 S) 2 two, known)
 
-  pub no_room : 2 ≤ count 64 S → within S (all n) ≡ true → room < one_entries (matrix_in file) → Refused (refused 9 0) ≡ answered (checks.Taken n m) file S room
+  pub no_room : 2 ≤ count 64 S → within S (all n) ≡ true → room < one_entries (matrix_in file) → Err (refused reason.Workspace 0) ≡ answered (Ok (shape n m)) file S room
   unfolding answered
   no_room two known l = rw (a_group two known, lt-ltb room (one_entries (matrix_in file)) l)
 
-  pub all_tested : Splittable file S n m room → split_of (matrix_in file) S ≡ answered (checks.Taken n m) file S room
+  pub all_tested : Splittable file S n m room → split_of (matrix_in file) S ≡ answered (Ok (shape n m)) file S room
   unfolding answered
   all_tested s = rw (a_group s.two ((within_⊆ S (all n)).1 s.known), le-ltb room (one_entries (matrix_in file)) s.long)
 
@@ -88,12 +89,12 @@ module _ {file : List ℕ} {S n m room : ℕ} (f : File file) (s : Splittable fi
 
   -- The method's answer for multiplicities and columns.
   abbrev taken_of : (ℕ → ℕ) → ℕ → (ℕ → Column) → Answer
-  taken_of μ k cols = Taken (split_cost 64 μ k cols S) (side 64 μ k cols S) (parted 64 S (side 64 μ k cols S))
+  taken_of μ k cols = Ok (record { cost = split_cost 64 μ k cols S; side = side 64 μ k cols S; other = parted 64 S (side 64 μ k cols S) })
 
   pub found : {μ : ℕ → ℕ} {cols : ℕ → Column} {cost t A : ℕ} → IsSplit μ m cols S cost A t → μ ≡ multiplicity (matrix_in file).multiplicities
-      → cols ≡ column (matrix_in file).columns → Taken cost A t ≡ split_of (matrix_in file) S
+      → cols ≡ column (matrix_in file).columns → Ok (record { cost = cost; side = A; other = t }) ≡ split_of (matrix_in file) S
   unfolding split_of
-  found d u e = (λ i. Taken (d.is_cost i) (d.is_side i) (d.is_parted i)) ∙ (λ i. taken_of (u i) (sym (taken_count f s.taken) i) (e i))
+  found d u e = (λ i. Ok (record { cost = d.is_cost i; side = d.is_side i; other = d.is_parted i })) ∙ (λ i. taken_of (u i) (sym (taken_count f s.taken) i) (e i))
 
   -- The search uses no more numbers than there are 1s.
   pub arcs_fit : {cols : ℕ → Column} {k : ℕ} → k ≡ one_entries (matrix_in file) → cols ≡ column (matrix_in file).columns → arc_count m cols S ≤ k
@@ -111,17 +112,17 @@ pub cleared_after : (file : List ℕ) (S : ℕ) (ws : List ℤ) {k : ℕ} {r : A
 unfolding workspace_after split_of
 cleared_after file S ws many e = rw e (ap (λ (k : ℕ). cleared k ws) many)
 
-pub left_alone : (file : List ℕ) (why : Refusal) (ws : List ℤ) → ws ≡ workspace_after file (Refused why) ws
+pub left_alone : (file : List ℕ) (why : Refusal) (ws : List ℤ) → ws ≡ workspace_after file (Err why) ws
 unfolding workspace_after
 left_alone file why ws = refl
 
 -- ---- the whole answer
 
 module _ (file : List ℕ) (S room : ℕ) where
-  pub file_refused : (why : Refusal) → Refused why ≡ answered (checks.Refused why) file S room
+  pub file_refused : (why : Refusal) → Err why ≡ answered (Err why) file S room
   unfolding answered
   file_refused why = refl
 
-  pub outcome : {k : Checked} {r : Answer} → k ≡ checked file → r ≡ answered k file S room → (r ≡ divided file S room) × (returned r ≡ split_numbers file S room)
+  pub outcome : {k : Result Shape Refusal} {r : Answer} → k ≡ checked file → r ≡ answered k file S room → (r ≡ divided file S room) × (returned r ≡ split_numbers file S room)
   unfolding divided
-  outcome e a = let whole = a ∙ ap (λ (k : Checked). answered k file S room) e in (whole, ap returned whole)
+  outcome e a = let whole = a ∙ ap (λ (k : Result Shape Refusal). answered k file S room) e in (whole, ap returned whole)

@@ -7,7 +7,6 @@ use lib.ListN.{length, length-map}
 use Rattle.taxa.specs.Sets.{Positive, multiplicity, multiplicity_in}
 use Rattle.taxa.proofs.Members.{∩-disjoint}
 use Rattle.record.specs.Bytes.{File}
-use Rattle.matrix.specs.declared.Checked.TheVariants.{Taken}
 use Rattle.matrix.specs.Check.{checked}
 use Rattle.matrix.specs.Matrix.{multiplicities_in, columns_at, column_in, LegalColumn, matrix_of}
 use Rattle.matrix.proofs.Taken.{taken_length, taken_taxa, taken_columns, taken_legal, taken_column}
@@ -15,8 +14,10 @@ use Rattle.matrix.proofs.Multiplying.{legal_positive, legal_merged}
 use Rattle.method.specs.Tree.{Sound, column}
 use Rattle.split.specs.Columns.{column_of, matrix_in}
 use Rattle.split.proofs.Loading.{file_column}
+use Rattle.std.specs.Prelude.{Ok}
+use Rattle.matrix.specs.Check.{shape}
 
-module _ {file : List ℕ} (f : File file) {n m : ℕ} (taken : Taken n m ≡ checked file) where
+module _ {file : List ℕ} (f : File file) {n m : ℕ} (taken : Ok (shape n m) ≡ checked file) where
   pub taken_count : length (matrix_in file).columns ≡ m
   taken_count = length-map (matrix_of file).columns column_of ∙ taken_columns f taken
 

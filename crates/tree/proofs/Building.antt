@@ -13,9 +13,7 @@ use Rattle.taxa.proofs.Members.{all_<, all_fits}
 use Rattle.taxa.proofs.Counts.{count_all}
 use Rattle.record.specs.Bytes.{File, over}
 use Rattle.matrix.specs.Check.{checked}
-use Rattle.matrix.specs.declared.Checked.TheVariants as checks
 use Rattle.answer.specs.declared.Answer.{Answer}
-use Rattle.answer.specs.declared.Written.TheVariants as written
 use Rattle.answer.specs.Content.{Content, file_of, length_of}
 use Rattle.answer.specs.Lawful.{Lawful}
 use Rattle.answer.specs.Tests.{judge}
@@ -32,13 +30,16 @@ use Rattle.search.proofs.Workspace.{clear_less, cleared_clear}
 use Rattle.split.specs.inner.Handing.{Parallel}
 use Rattle.split.specs.Columns.{matrix_in}
 use Rattle.split.proofs.Soundness.{taken_count, taken_known, few_taxa, few_columns, can_load, taken_sound}
-use Rattle.tree.specs.declared.Built.{Built}
 use Rattle.tree.specs.Lists.{first_groups}
 use Rattle.tree.specs.inner.Lists.{Room, unweighed}
 use Rattle.tree.specs.inner.Grow.{entries_for, InFront, LentLists, arcs_in, Ready, Grown, walk_from, Walked, tree_of, Growable, Grew, Answers}
 use Rattle.tree.specs.Build as specs
 use Rattle.tree.specs.Build.{tree_with, with_flips, tree_for, content_for, tree_room, room_for}
 use Rattle.tree.proofs.Rules.{answer_lawful, answer_fits, flips_few, answer_of_tree, tree_lawful, tree_fits}
+use Rattle.std.specs.Prelude.{Result, Ok}
+use Rattle.record.specs.declared.refusal.Refusal.{Refusal}
+use Rattle.matrix.specs.Check.{shape}
+use Rattle.tree.specs.declared.Built.{Built}
 
 -- The flip list asks for no weight, and for no column past the last.
 same_flips : (m : ℕ) (old new new' : ℕ → Column) → ((c : ℕ) → c < m → ((new c).ones ≡ (new' c).ones) × ((new c).zeros ≡ (new' c).zeros))
@@ -175,23 +176,23 @@ module _ {file : List ℕ} {n m space : ℕ} (f : File file) (b : Growable file 
   -- ---- writing it
 
   -- A lawful content is written where there is room.
-  writes_all : {c : Content} → Lawful c → (listed room : ℕ) → c.flips ≤ listed → length_of c ≤ room → writing c listed room ≡ written.Length (length_of c)
+  writes_all : {c : Content} → Lawful c → (listed room : ℕ) → c.flips ≤ listed → length_of c ≤ room → writing c listed room ≡ Ok (length_of c)
   unfolding writing write_tests judge
   writes_all {c} h listed room l k = rw (← lawful_passes h listed l, le-ltb room (length_of c) k)
 
-  pub tree_written : (room : ℕ) → tree_room n ≤ room → writing (tree_for M) 0 room ≡ written.Length (length_of (tree_for M))
+  pub tree_written : (room : ℕ) → tree_room n ≤ room → writing (tree_for M) 0 room ≡ Ok (length_of (tree_for M))
   unfolding tree_for
   tree_written room fits = writes_all (tree_lawful M ok) 0 room (omega arith) (omega (arith, tree_fits M ok, taken_known f b.taken))
 
   -- What has grown fits the room for any tree.
   pub fits_any : {a : Answer} {os zs : List ℕ} → Grew file a os zs
-      → (writing (tree_of a) 0 (tree_room 64) ≡ written.Length (length_of (tree_of a))) × (length_of (tree_of a) ≤ tree_room 64)
+      → (writing (tree_of a) 0 (tree_room 64) ≡ Ok (length_of (tree_of a))) × (length_of (tree_of a) ≤ tree_room 64)
   fits_any g =
       let few = few_taxa f b.taken in
-      subst (λ (c : Content). (writing c 0 (tree_room 64) ≡ written.Length (length_of c)) × (length_of c ≤ tree_room 64)) (sym g.tree)
+      subst (λ (c : Content). (writing c 0 (tree_room 64) ≡ Ok (length_of c)) × (length_of c ≤ tree_room 64)) (sym g.tree)
       (tree_written (tree_room 64) (omega arith), omega (arith, tree_fits M ok, taken_known f b.taken))
 
-  pub whole_written : (room : ℕ) → room_for n m ≤ room → writing (content_for M) 256 room ≡ written.Length (length_of (content_for M))
+  pub whole_written : (room : ℕ) → room_for n m ≤ room → writing (content_for M) 256 room ≡ Ok (length_of (content_for M))
   whole_written room fits =
       writes_all (answer_lawful M ok) 256 room (omega (arith, flips_few M ok, taken_count f b.taken, few_columns f b.taken))
       (omega (arith, answer_fits M ok, taken_count f b.taken, taken_known f b.taken))
@@ -202,10 +203,10 @@ pub whole_is : {file os zs : List ℕ} {a : Answer} → Grew file a os zs
 whole_is {file} g = (λ i. with_flips (g.tree i) (g.flips i)) ∙ sym (answer_of_tree (matrix_in file))
 
 -- What is written so is answered, and the output holds it.
-pub answers_all : {c c' : Content} {entries : ℕ} {out out' : List ℕ} {r : Built} → Answers c' entries out r out' → c' ≡ c
-    → writing c entries (length out) ≡ written.Length (length_of c)
+pub answers_all : {c c' : Content} {entries : ℕ} {out out' : List ℕ} {r : Result Built Refusal} → Answers c' entries out r out' → c' ≡ c
+    → writing c entries (length out) ≡ Ok (length_of c)
     → (r ≡ specs.written c) × (out' ≡ over (file_of c) 0 out)
 answers_all a e w = (rw (e, w) at a.answers, rw (e, w) at a.output)
 
-pub some_taxa : {file : List ℕ} {n m : ℕ} → File file → checks.Taken n m ≡ checked file → 0 < n
+pub some_taxa : {file : List ℕ} {n m : ℕ} → File file → Ok (shape n m) ≡ checked file → 0 < n
 some_taxa f taken = omega (arith, (taken_sound f taken).some, taken_known f taken)

@@ -5,15 +5,16 @@ use Prim.Native.Nat.{ℕ}
 use lib.ListN.{length}
 use Rattle.method.specs.Tree.{Group, Flips, total}
 use Rattle.answer.specs.declared.Answer.{Answer}
-use Rattle.answer.specs.declared.Written.{Written}
 use Rattle.answer.specs.Content.{Content, content_of}
 use Rattle.answer.specs.Writing.{Writes}
-use Rattle.tree.specs.declared.Built.{Built}
 use Rattle.tree.specs.Lists.{first_groups, first_flips}
 use Rattle.tree.specs.inner.Lists.{Room, FlipRoom}
 use Rattle.tree.specs.Build.{tree_with, with_flips}
 use Rattle.tree.specs.inner.Grow.{written_as, tree_of, Answers}
 use Rattle.tree.proofs.Lists.{taxa_of, costs_of, columns_of, raised_of, lowered_of}
+use Rattle.std.specs.Prelude.{Result}
+use Rattle.record.specs.declared.refusal.Refusal.{Refusal}
+use Rattle.tree.specs.declared.Built.{Built}
 
 pub tree_held : {ts cs : List ℕ} {g t : ℕ} {gs : List Group} (n m f : ℕ) → Room g ts cs → g ≡ length gs → first_groups ts cs g ≡ gs → t ≡ total gs
     → tree_of (record { n = n; m = m; groups = g; flips = f; total = t; taxa = ts; costs = cs }) ≡ tree_with n m gs
@@ -51,7 +52,7 @@ whole_held {ns} {us} {ds} {f} a room many list = λ i. record {
 }
 
 -- What writing answers is what the build answers.
-pub answers_as : {c c' : Content} {entries entries' : ℕ} {out out' : List ℕ} {w : Written} {r : Built} → Writes c' entries' out w out' → c' ≡ c
+pub answers_as : {c c' : Content} {entries entries' : ℕ} {out out' : List ℕ} {w : Result ℕ Refusal} {r : Result Built Refusal} → Writes c' entries' out w out' → c' ≡ c
     → entries' ≡ entries → r ≡ written_as c.total w
     → Answers c entries out r out'
 answers_as {c} {out = out} h e n is =

@@ -2,7 +2,6 @@
 use mathlib.Core.Path.{sym, ap, ◌∙◌}
 use Prim.Native.Nat.{◌≤◌}
 use Rattle.record.specs.Records.{passed_refusal}
-use Rattle.record.specs.declared.Passed.TheVariants.{Refused}
 use Rattle.answer.specs.declared.Answer.{Answer}
 use Rattle.answer.specs.declared.Verdict.TheVariants as verdict
 use Rattle.answer.specs.Content.{flip_count}
@@ -10,10 +9,11 @@ use Rattle.answer.specs.Reading.{listed}
 use Rattle.answer.proofs.Outcomes.{file_refused, no_room, taken, laid}
 use native.Mathlib.Omega.{arith}
 use Rattle.answer.proofs.read.Goals as goal
+use Rattle.std.specs.Prelude.{Err}
 
 pub returns-in_default : goal.returns-in_default
 returns-in_default c =
-    file_refused _ _ _ _ c.refused.ensures (ap Refused (c.refusal.ensures ∙ ap passed_refusal c.in_default.is) ∙ sym c.in_default.is ∙ c.pass_file-passed.ensures)
+    file_refused _ _ _ _ c.refused.ensures (ap Err (c.refusal.ensures ∙ ap passed_refusal c.in_default.is) ∙ sym c.in_default.is ∙ c.pass_file-passed.ensures)
 
 pub u16_at-flips-requires : goal.u16_at-flips-requires
 u16_at-flips-requires c = omega (arith, laid _ (sym c.in-At.is ∙ c.pass_file-passed.ensures))

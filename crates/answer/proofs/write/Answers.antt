@@ -2,9 +2,7 @@
 use mathlib.Core.Path.{◌≡◌, sym, ap, ◌∙◌}
 use mathlib.Core.List.{List}
 use Prim.Native.Nat.{ℕ}
-use Rattle.record.specs.Records.{passed_refusal}
-use Rattle.record.specs.declared.Passed.{Passed}
-use Rattle.record.specs.declared.Passed.TheVariants.{Refused}
+use Rattle.record.specs.Records.{passed_refusal, Passed}
 use Rattle.answer.specs.declared.Answer.{Answer}
 use Rattle.answer.specs.Content.{content_of}
 use Rattle.answer.specs.Tests.{as_given, tests}
@@ -12,6 +10,7 @@ use Rattle.answer.specs.Reading.{listed}
 use Rattle.answer.proofs.Outcomes.{given_refused, no_output_room, written_out, given_head_kept, column_fits}
 use native.Mathlib.Omega.{arith}
 use Rattle.answer.proofs.write.Goals as goal
+use Rattle.std.specs.Prelude.{Err}
 
 -- What the tests said, of all entries that are listed.
 tested : (a : Answer) (columns raised lowered : List ℕ) (entries : ℕ) (r : Passed) → entries ≡ listed columns raised lowered
@@ -22,7 +21,7 @@ pub returns-in_default : goal.returns-in_default
 returns-in_default c =
     let s = c.args in
     let t = tested s.answer s.columns.now s.raised.now s.lowered.now _ _ c.least-entries.ensures c.pass_given-passed.ensures in
-    given_refused _ _ _ (ap Refused (c.refusal.ensures ∙ ap passed_refusal c.in_default.is) ∙ sym c.in_default.is ∙ t)
+    given_refused _ _ _ (ap Err (c.refusal.ensures ∙ ap passed_refusal c.in_default.is) ∙ sym c.in_default.is ∙ t)
 
 pub returns-then-out-size : goal.returns-then-out-size
 returns-then-out-size c =

@@ -5,14 +5,15 @@ use Prim.Native.Nat.{ℕ, ◌≤◌}
 use native.Mathlib.Omega.{arith}
 use lib.ListN.{length, take}
 use lib.Seq.{length-take-le}
-use Rattle.answer.specs.declared.Written.{Written}
 use Rattle.answer.specs.Content.{Content}
 use Rattle.answer.specs.Reading.{listed}
 use Rattle.answer.specs.Writing.{Writes}
 use Rattle.entries.proofs.write_parts.Goals as goal
+use Rattle.std.specs.Prelude.{Result}
+use Rattle.record.specs.declared.refusal.Refusal.{Refusal}
 
 -- that many entries are listed
-listed_first : (k : ℕ) (cs us ds : List ℕ) → (k ≤ length cs) × ((k ≤ length us) × (k ≤ length ds)) → {c : Content} {out out' : List ℕ} {r : Written} → Writes c (listed (take k cs) (take k us) (take k ds)) out r out' → Writes c k out r out'
+listed_first : (k : ℕ) (cs us ds : List ℕ) → (k ≤ length cs) × ((k ≤ length us) × (k ≤ length ds)) → {c : Content} {out out' : List ℕ} {r : Result ℕ Refusal} → Writes c (listed (take k cs) (take k us) (take k ds)) out r out' → Writes c k out r out'
 listed_first k cs us ds l w = rw many at w
   where
     many : listed (take k cs) (take k us) (take k ds) ≡ k

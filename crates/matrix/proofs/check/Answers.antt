@@ -5,14 +5,16 @@ use mathlib.Core.List.{List}
 use Prim.Native.Nat.{ℕ}
 use Rattle.taxa.specs.Sets.{all}
 use Rattle.record.specs.Bytes.{number_at}
-use Rattle.matrix.specs.declared.Checked.{Checked}
 use Rattle.matrix.specs.Check.{multiplicities_passed, columns_passed, checked, returned, Checks}
 use Rattle.matrix.proofs.Passing.{Head, head}
 use Rattle.matrix.proofs.Judging.{head_refused, multiplicities_refused, columns_refused, end_refused, all_passed}
 use Rattle.matrix.proofs.check.Goals as goal
+use Rattle.std.specs.Prelude.{Result}
+use Rattle.record.specs.declared.refusal.Refusal.{Refusal}
+use Rattle.matrix.specs.declared.Shape.{Shape}
 
 -- The case and its numbers.
-checks : (file : List ℕ) {r : Checked} → r ≡ checked file → Checks file r
+checks : (file : List ℕ) {r : Result Shape Refusal} → r ≡ checked file → Checks file r
 checks file e = record { answers = e; numbers = ap returned e }
 
 pub returns-in_default : goal.returns-in_default

@@ -3,15 +3,16 @@ use mathlib.Core.Path.{◌≡◌, sym, ap, ◌∙◌}
 use mathlib.Core.List.{List}
 use native.Mathlib.Omega.{arith}
 use Prim.Native.Nat.{ℕ}
-use Rattle.names.specs.declared.Listed.{Listed}
 use Rattle.names.specs.Check.{checked, returned, Checks}
 use Rattle.names.proofs.Walking.{place_grows}
 use Rattle.names.proofs.Passing.{passing}
 use Rattle.names.proofs.Checking.{begun, gone_on, name_stops, end_stops, all_passed}
 use Rattle.names.proofs.check.Goals as goal
+use Rattle.std.specs.Prelude.{Result}
+use Rattle.record.specs.declared.refusal.Refusal.{Refusal}
 
 -- The case and its numbers.
-checks : (file : List ℕ) {r : Listed} → r ≡ checked file → Checks file r
+checks : (file : List ℕ) {r : Result ℕ Refusal} → r ≡ checked file → Checks file r
 checks file e = record { answers = e; numbers = ap returned e }
 
 pub returns-in_default : goal.returns-in_default

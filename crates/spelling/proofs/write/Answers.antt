@@ -4,22 +4,21 @@ use mathlib.Core.List.{List}
 use Prim.Native.Nat.{ℕ}
 use Rattle.record.specs.Records.{passed_refusal}
 use Rattle.record.specs.declared.Cursor.{Cursor}
-use Rattle.record.specs.declared.Passed.TheVariants.{At, Refused}
 use Rattle.answer.specs.Reading.{file_tests}
-use Rattle.names.specs.declared.Listed.TheVariants.{Taken}
 use Rattle.names.specs.Check.{checked}
 use Rattle.spelling.specs.inner.Spell.{Readable}
 use Rattle.spelling.proofs.Writing.{answer_refused, list_refused, both_read}
 use Rattle.spelling.proofs.write.Goals as goal
+use Rattle.std.specs.Prelude.{Ok, Err}
 
 -- Both were read.
-both : (answer list : List ℕ) {here : Cursor} {count : ℕ} → At here ≡ file_tests answer → Taken count ≡ checked list → Readable answer list count
+both : (answer list : List ℕ) {here : Cursor} {count : ℕ} → Ok here ≡ file_tests answer → Ok count ≡ checked list → Readable answer list count
 both answer list e l = record { here = _; passes = e; taken = l }
 
 pub returns-in_default : goal.returns-in_default
 returns-in_default c =
     let told = c.in_default.is in
-    answer_refused _ _ _ (ap Refused (c.refusal.ensures ∙ ap passed_refusal told) ∙ sym told ∙ c.pass_file-passed.ensures)
+    answer_refused _ _ _ (ap Err (c.refusal.ensures ∙ ap passed_refusal told) ∙ sym told ∙ c.pass_file-passed.ensures)
 
 pub returns-in-Taken : goal.returns-in-Taken
 returns-in-Taken c =

@@ -1,16 +1,14 @@
 -- What the functions that spell a tree hand to each other.
-use Rattle.std.specs.Prelude.{◌≡◌, cond, List, [], ◌∷◌, ◌++◌, ℕ, ◌+◌, ◌^◌, ◌≤◌, ◌<◌, eqb, length, take}
+use Rattle.std.specs.Prelude.{◌≡◌, cond, List, [], ◌∷◌, ◌++◌, ℕ, ◌+◌, ◌^◌, ◌≤◌, ◌<◌, eqb, length, take, Ok}
 use Rattle.taxa.specs.Sets.{all}
 use Rattle.record.specs.Bytes.{over}
 use Rattle.record.specs.declared.Cursor.{Cursor}
-use Rattle.record.specs.declared.Passed.TheVariants as passed
 use Rattle.answer.specs.declared.Answer.{Answer}
 use Rattle.answer.specs.Reading.{file_tests}
 use Rattle.grammar.specs.Bytes.{byte, right, comma}
 use Rattle.grammar.specs.Trees.{Tree, one, tokens}
 use Rattle.grammar.specs.Writer.{plain, written}
 use Rattle.clades.specs.Draw.{parts, drawn}
-use Rattle.names.specs.declared.Listed.TheVariants as lists
 use Rattle.names.specs.Check.{names_in, checked}
 use Rattle.spelling.specs.Write.{name_in}
 
@@ -62,8 +60,8 @@ groups_of a = take a.groups a.taxa
 -- Both files were read.
 pub record Readable (answer list : List ℕ) (count : ℕ) : Type 0 where
   pub here : Cursor
-  pub passes : passed.At here ≡ file_tests answer
-  pub taken : lists.Taken count ≡ checked list
+  pub passes : Ok here ≡ file_tests answer
+  pub taken : Ok count ≡ checked list
 
 -- A value of an answer, names for its taxa, and room for its text.
 pub record Tellable (a : Answer) (list text : List ℕ) : Type 0 where

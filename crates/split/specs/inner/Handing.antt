@@ -1,16 +1,16 @@
 -- What the functions of a split hand to each other, and to the build.
-use Rattle.std.specs.Prelude.{◌≡◌, List, ◌++◌, ℕ, ◌≤◌, length, drop}
+use Rattle.std.specs.Prelude.{◌≡◌, List, ◌++◌, ℕ, ◌≤◌, length, drop, Ok}
 use Rattle.taxa.specs.Sets.{◌⊆◌, count, all, multiplicity_in}
-use Rattle.matrix.specs.declared.Checked.TheVariants as checks
 use Rattle.matrix.specs.Check.{checked}
 use Rattle.method.specs.Split.{split_cost, after, split_parts}
 use Rattle.method.specs.Tree.{one_entries}
 use Rattle.search.specs.Search.{cols_of}
 use Rattle.split.specs.Columns.{matrix_in}
+use Rattle.matrix.specs.Check.{shape}
 
 -- What has been tested where nothing is refused.
 pub record Splittable (file : List ℕ) (S n m room : ℕ) : Type 0 where
-  pub taken : checks.Taken n m ≡ checked file
+  pub taken : Ok (shape n m) ≡ checked file
   pub two : 2 ≤ count 64 S
   pub known : S ⊆ all n
   pub long : one_entries (matrix_in file) ≤ room

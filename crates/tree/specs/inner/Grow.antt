@@ -1,30 +1,28 @@
 -- What the functions of the walk hand to each other.
-use Rattle.std.specs.Prelude.{◌≡◌, cond, List, [], ◌++◌, ℕ, ◌+◌, ◌*◌, ◌^◌, ◌≤◌, ◌<◌, ltb, ℤ, length, get_or, take}
+use Rattle.std.specs.Prelude.{◌≡◌, cond, List, [], ◌++◌, ℕ, ◌+◌, ◌*◌, ◌^◌, ◌≤◌, ◌<◌, ltb, ℤ, length, get_or, take, Result, Ok, Err}
 use Rattle.taxa.specs.Sets.{Positive, multiplicity_in, Tabled, count}
-use Rattle.matrix.specs.declared.Checked.TheVariants as checks
 use Rattle.matrix.specs.Matrix.{columns_at}
 use Rattle.matrix.specs.Check.{checked}
 use Rattle.method.specs.Split.{Column}
 use Rattle.method.specs.Flow.{arc_count}
 use Rattle.method.specs.Tree.{Group, Walk, build, Turn, walked, ordered, total, one_entries, column, flip_list, answer}
 use Rattle.answer.specs.declared.Answer.{Answer}
-use Rattle.answer.specs.declared.Written.{Written}
-use Rattle.answer.specs.declared.Written.TheVariants as written
 use Rattle.answer.specs.Content.{Content, content_of, file_of}
 use Rattle.answer.specs.Writing.{writing, put}
 use Rattle.search.specs.inner.Places.{Clear}
 use Rattle.search.specs.Search.{cols_of}
 use Rattle.split.specs.inner.Handing.{Parallel}
 use Rattle.split.specs.Columns.{matrix_in}
-use Rattle.tree.specs.declared.Built.{Built}
-use Rattle.tree.specs.declared.Built.TheVariants.{Taken, Refused}
 use Rattle.tree.specs.Lists.{first_groups}
 use Rattle.tree.specs.Build.{tree_for}
 use Rattle.tree.specs.inner.Lists.{Room, unweighed}
+use Rattle.record.specs.declared.refusal.Refusal.{Refusal}
+use Rattle.matrix.specs.Check.{shape}
+use Rattle.tree.specs.declared.Built.{Built}
 
 -- What has been tested where a tree grows.
 pub record Growable (file : List ℕ) (n m space : ℕ) : Type 0 where
-  pub taken : checks.Taken n m ≡ checked file
+  pub taken : Ok (shape n m) ≡ checked file
   pub places : one_entries (matrix_in file) ≤ space
 
 -- At most 256 columns of at most 64 taxa in three lists, and multiplicities of which none is 0, with their table.
@@ -114,12 +112,12 @@ pub record Grew (file : List ℕ) (a : Answer) (os zs : List ℕ) : Type 0 where
   pub flipped : Flipped file os zs a.m
 
 -- What writing answers, with the total, as the build's answer.
-abbrev pub written_as : ℕ → Written → Built
-written_as total (written.Length size) = Taken size total
-written_as total (written.Refused why) = Refused why
+abbrev pub written_as : ℕ → Result ℕ Refusal → Result Built Refusal
+written_as total (Ok size) = Ok (record { size = size; total = total })
+written_as total (Err why) = Err why
 
 -- A content was handed to the writing of answers, with room for so many flips.
-pub record Answers (c : Content) (entries : ℕ) (out : List ℕ) (r : Built) (out' : List ℕ) : Type 0 where
+pub record Answers (c : Content) (entries : ℕ) (out : List ℕ) (r : Result Built Refusal) (out' : List ℕ) : Type 0 where
   pub answers : r ≡ written_as c.total (writing c entries (length out))
   pub output : out' ≡ put (writing c entries (length out)) (file_of c) out
 

@@ -2,7 +2,6 @@
 use borrow.Author.Rules.{rules}
 use mathlib.Core.Path.{◌≡◌, refl, sym, subst, ◌∙◌}
 use Prim.Native.Nat.{ℕ}
-use Rattle.record.specs.declared.Passed.TheVariants.{At}
 use Rattle.answer.specs.Rules.{floor_of}
 use Rattle.answer.specs.Tests.{as_given, walk, entry_test, flips_test}
 use Rattle.answer.proofs.Rows.{floor_next}
@@ -10,6 +9,7 @@ use Rattle.answer.proofs.Kept.{entry_keeps}
 use Rattle.answer.proofs.Walks.{walk_none, walk_more, walk_stops, given_entry}
 use native.Mathlib.Omega.{arith}
 use Rattle.answer.proofs.given.given_flips.Goals as goal
+use Rattle.std.specs.Prelude.{Ok}
 
 pub loop-j-init : goal.loop-j-init
 unfolding floor_of
@@ -49,4 +49,4 @@ pub returns : goal.returns
 returns c =
     let s = c.args in
     let all : c.loop-j.j ≡ s.flips = omega arith in
-    subst (λ (k : ℕ). At c.loop-j.here ≡ walk (flips_test as_given s.n s.m s.columns.now s.raised.now s.lowered.now) k s.from) all c.loop-j.invariant.3
+    subst (λ (k : ℕ). Ok c.loop-j.here ≡ walk (flips_test as_given s.n s.m s.columns.now s.raised.now s.lowered.now) k s.from) all c.loop-j.invariant.3

@@ -1,13 +1,13 @@
 -- `answer::given::given_flips` meets its contract. The invariant: those passed lead here, and the floor is theirs.
 use mathlib.Core.Path.{◌≡◌}
 use Prim.Native.Nat.{◌+◌, ◌*◌, ◌-◌, ◌≤◌}
-use Rattle.record.specs.declared.Passed.TheVariants.{At}
 use Rattle.answer.specs.Rules.{floor_of}
 use Rattle.answer.specs.Tests.{as_given, walk, flips_test}
 use Rattle.answer.proofs.given.given_flips.Given as goal
+use Rattle.std.specs.Prelude.{Ok}
 
 abbrev pub invariant-loop-j : goal.invariant-loop-j
-invariant-loop-j l = (l.j ≤ l.flips) × (l.here.at ≡ l.initial.here.at + 22 * l.j) × (l.floor ≡ floor_of l.columns l.j) × (At l.here ≡ walk (flips_test as_given l.n l.m l.columns l.raised l.lowered) l.j l.initial.here)
+invariant-loop-j l = (l.j ≤ l.flips) × (l.here.at ≡ l.initial.here.at + 22 * l.j) × (l.floor ≡ floor_of l.columns l.j) × (Ok l.here ≡ walk (flips_test as_given l.n l.m l.columns l.raised l.lowered) l.j l.initial.here)
 
 abbrev pub decreases-loop-j : goal.decreases-loop-j
 decreases-loop-j l = l.flips - l.j

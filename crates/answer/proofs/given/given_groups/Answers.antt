@@ -2,11 +2,11 @@
 use borrow.Author.Rules.{rules}
 use mathlib.Core.Path.{◌≡◌, sym, subst, ◌∙◌}
 use Prim.Native.Nat.{ℕ}
-use Rattle.record.specs.declared.Passed.TheVariants.{At}
 use Rattle.answer.specs.Tests.{as_given, walk, group_test}
 use Rattle.answer.proofs.Walks.{walk_none, walk_more, walk_stops, given_group}
 use native.Mathlib.Omega.{arith}
 use Rattle.answer.proofs.given.given_groups.Goals as goal
+use Rattle.std.specs.Prelude.{Ok}
 
 pub loop-i-init : goal.loop-i-init
 loop-i-init c = (search rules, search rules, walk_none _ _)
@@ -36,4 +36,4 @@ pub returns : goal.returns
 returns c =
     let s = c.args in
     let all : c.loop-i.i ≡ s.groups = omega arith in
-    subst (λ (k : ℕ). At c.loop-i.here ≡ walk (group_test as_given s.n s.taxa.now) k s.from) all c.loop-i.invariant.2
+    subst (λ (k : ℕ). Ok c.loop-i.here ≡ walk (group_test as_given s.n s.taxa.now) k s.from) all c.loop-i.invariant.2

@@ -3,10 +3,8 @@ use mathlib.Core.Path.{◌≡◌, sym, ◌∙◌}
 use mathlib.Core.List.{List}
 use Prim.Native.Nat.{ℕ, ◌+◌, ◌*◌}
 use Rattle.record.specs.Records as records
-use Rattle.record.specs.Records.{payload}
+use Rattle.record.specs.Records.{payload, Passed}
 use Rattle.record.specs.declared.Cursor.{Cursor}
-use Rattle.record.specs.declared.Passed.{Passed}
-use Rattle.record.specs.declared.Passed.TheVariants.{At}
 use Rattle.answer.specs.declared.Answer.{Answer}
 use Rattle.answer.specs.Content.{Content, content_of}
 use Rattle.answer.specs.Rules.{head_fault, total_fault}
@@ -17,6 +15,7 @@ use Rattle.answer.proofs.Cuts.{groups_cut, flips_cut, sum_cut}
 use Rattle.answer.proofs.Stages.{head_of, groups_of, flips_of, end_of, head_stops, groups_stop, flips_stop, ends_with}
 use native.Mathlib.Omega.{arith}
 use Rattle.answer.proofs.given.pass_given.Goals as goal
+use Rattle.std.specs.Prelude.{Ok}
 
 -- What the head's tests, the groups', the flips' and the end's are of what is given.
 module _ (a : Answer) (columns raised lowered : List ℕ) (entries : ℕ) where
@@ -39,13 +38,13 @@ module _ (a : Answer) (columns raised lowered : List ℕ) (entries : ℕ) where
   unfolding end_test
   ended fault end next r f n e = rw (e, n, f, sum_cut _ _)
 
-  leads : {first : Cursor} → At first ≡ head_of as_given given entries → HeadKept a.n a.m a.groups a.flips entries × (first.at ≡ 16)
+  leads : {first : Cursor} → Ok first ≡ head_of as_given given entries → HeadKept a.n a.m a.groups a.flips entries × (first.at ≡ 16)
   leads h = given_head _ _ _ _ _ h
 
-  lead : {first flips : Cursor} → At first ≡ head_of as_given given entries → At flips ≡ groups_of as_given given entries first → flips.at ≡ 16 + 16 * a.groups
+  lead : {first flips : Cursor} → Ok first ≡ head_of as_given given entries → Ok flips ≡ groups_of as_given given entries first → flips.at ≡ 16 + 16 * a.groups
   lead h g = omega (arith, (leads h).1, given_groups_move _ _ _ _ g)
 
-  flips_end : (flips : Cursor) {end : Cursor} → At end ≡ flips_of as_given given entries flips → end.at ≡ flips.at + 22 * a.flips
+  flips_end : (flips : Cursor) {end : Cursor} → Ok end ≡ flips_of as_given given entries flips → end.at ≡ flips.at + 22 * a.flips
   flips_end flips f = given_flips_move a.n a.m a.flips given.columns given.raised given.lowered flips f
 
 pub returns-in_default : goal.returns-in_default

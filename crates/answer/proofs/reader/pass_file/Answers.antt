@@ -4,13 +4,13 @@ use mathlib.Core.List.{List}
 use Prim.Native.Nat.{ℕ}
 use Rattle.record.specs.Bytes.{number_at}
 use Rattle.record.specs.declared.Cursor.{Cursor}
-use Rattle.record.specs.declared.Passed.{Passed}
 use Rattle.answer.specs.Content.{group_count, flip_count, flips_start, taxa_in, costs_in, columns_from, raised_from, lowered_from}
 use Rattle.answer.specs.Tests.{in_file, walk, group_test, flips_test, end_test}
 use Rattle.answer.proofs.Files.{groups_of, flips_of, end_of, head_leads, groups_lead, stops, ends}
 use Rattle.answer.proofs.Stages.{head_stops, groups_stop, flips_stop, ends_with}
 use native.Mathlib.Omega.{arith}
 use Rattle.answer.proofs.reader.pass_file.Goals as goal
+use Rattle.record.specs.Records.{Passed}
 
 -- What the groups' tests, the flips' and the end's are of the file, by the numbers that were read for them.
 module _ (file : List ℕ) where

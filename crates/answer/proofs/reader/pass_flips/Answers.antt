@@ -2,7 +2,6 @@
 use borrow.Author.Rules.{rules}
 use mathlib.Core.Path.{◌≡◌, refl, sym, ap, subst, ◌∙◌}
 use Prim.Native.Nat.{ℕ, ◌+◌}
-use Rattle.record.specs.declared.Passed.TheVariants.{At}
 use Rattle.answer.specs.Rules.{floor_of}
 use Rattle.answer.specs.Tests.{walk}
 use Rattle.answer.proofs.Rows.{floor_next}
@@ -10,6 +9,7 @@ use Rattle.answer.proofs.Walks.{walk_none, walk_more, walk_stops, entry_met, fli
 use native.Mathlib.Omega.{arith}
 use Rattle.answer.proofs.reader.pass_flips.Invariants.{one}
 use Rattle.answer.proofs.reader.pass_flips.Goals as goal
+use Rattle.std.specs.Prelude.{Ok}
 
 pub loop-j-init : goal.loop-j-init
 unfolding floor_of
@@ -49,4 +49,4 @@ loop-j-preserved c =
     )
 
 pub returns : goal.returns
-returns c = let all : c.loop-j.j ≡ c.args.flips = omega arith in subst (λ (k : ℕ). At c.loop-j.here ≡ walk (one c.args.file.now c.args.n c.args.m c.args.flips c.args.from) k c.args.from) all c.loop-j.invariant.3
+returns c = let all : c.loop-j.j ≡ c.args.flips = omega arith in subst (λ (k : ℕ). Ok c.loop-j.here ≡ walk (one c.args.file.now c.args.n c.args.m c.args.flips c.args.from) k c.args.from) all c.loop-j.invariant.3

@@ -6,13 +6,11 @@ use lib.ListN.{set, replicate}
 use mathlib.Core.List.{List}
 use Rattle.record.specs.Bytes.{number_at, over}
 use Rattle.record.specs.Records as records
-use Rattle.record.specs.Records.{step, record_of}
+use Rattle.record.specs.Records.{step, record_of, Passed}
 use Rattle.record.specs.declared.Cursor.{Cursor}
 use Rattle.record.specs.declared.Record.{Record}
-use Rattle.record.specs.declared.Passed.{Passed}
 use Rattle.record.specs.declared.Step.{Step}
 use Rattle.record.specs.declared.Step.TheVariants.{Payload}
-use Rattle.record.specs.declared.Passed.TheVariants.{At, Refused}
 use Rattle.answer.specs.Rules.{group_fault}
 use Rattle.answer.specs.Content.{taxa_in, run}
 use Rattle.answer.specs.Tests.{in_file, judge, walk, group_test}
@@ -21,6 +19,7 @@ use Rattle.record.proofs.Steps.{Held, held}
 use Rattle.answer.proofs.Walks.{walk_none, walk_more, walk_stops, group_met, judged_so_far, taxa_stored}
 use native.Mathlib.Omega.{arith}
 use Rattle.answer.proofs.reader.pass_groups.Goals as goal
+use Rattle.std.specs.Prelude.{Ok, Err}
 
 abbrev zeros : List ℕ
 zeros = replicate 63 0
@@ -54,7 +53,7 @@ returns-in_default c =
     let s = c.args in
     let found : c.read-step.result ≡ step s.file.now l.here.at (record_of records.group) =
     rw (← c.of.ensures) c.read-step.ensures in
-    let refused_step : Refused c.refusal.result ≡ group_test (in_file s.file.now) s.n (taxa_in s.file.now s.groups) l.i l.here =
+    let refused_step : Err c.refusal.result ≡ group_test (in_file s.file.now) s.n (taxa_in s.file.now s.groups) l.i l.here =
     rw (c.refusal.ensures, ← found, c.in_default.is) in
     walk_stops _ _ _ l.i (omega arith) l.invariant.4 refused_step
 
@@ -86,4 +85,4 @@ pub returns : goal.returns
 returns c =
     let s = c.args in
     let all : c.loop-i.i ≡ s.groups = omega arith in
-    subst (λ (k : ℕ). At c.loop-i.here ≡ walk (group_test (in_file s.file.now) s.n (taxa_in s.file.now s.groups)) k s.from) all c.loop-i.invariant.4
+    subst (λ (k : ℕ). Ok c.loop-i.here ≡ walk (group_test (in_file s.file.now) s.n (taxa_in s.file.now s.groups)) k s.from) all c.loop-i.invariant.4
