@@ -1,14 +1,11 @@
--- Bytes compared: the same where each is (`equal_true`, `equal_refl`, `differs`), byte by byte (`equal_next`), and never where the lengths differ
--- (`other_size`).
+-- Bytes compared: the same where each is (`equal_true`, `equal_refl`, `differs`), and as `==` of slices compares them (`equal_pairs`).
 use mathlib.Core.Path.{◌≡◌, refl, sym, ap}
 use mathlib.Core.Bool.{Bool, true, false, ◌&&◌, true≢false}
 use mathlib.Core.List.{List, [], ◌∷◌}
 use mathlib.Core.Logic.{◌≢◌}
-use Prim.Native.Nat.{ℕ, suc, ◌+◌, ◌≤◌, ◌<◌}
-use native.Mathlib.Numerals.{add-one}
+use Prim.Native.Nat.{ℕ}
 use lib.Dec.{eqb}
-use lib.ListN.{length, get_or, drop, drop_of_length-le}
-use lib.Seq.{drop-cons}
+use lib.Pointwise.{pointwise}
 use borrow.Author.Tests.{eqb-true, eq-eqb}
 use Rattle.record.specs.Bytes.{equal}
 
@@ -30,17 +27,13 @@ equal_true (a ∷ n) (b ∷ m) e =
     let (f, g) = and_true (eqb a b) (equal n m) e in
     let i = eqb-true a b f in let j = equal_true n m g in cc
 
-equal_cons : (a b : ℕ) (n m : List ℕ) → equal (a ∷ n) (b ∷ m) ≡ eqb a b && equal n m
+-- What `==` of slices tells is the same.
+pub equal_pairs : (n m : List ℕ) → pointwise eqb n m ≡ equal n m
 unfolding equal
-equal_cons a b n m = refl
-
-pub equal_next : (n m : List ℕ) (i : ℕ) → i < length n → i < length m
-    → equal (drop i n) (drop i m) ≡ eqb (get_or n i 0) (get_or m i 0) && equal (drop (i + 1) n) (drop (i + 1) m)
-equal_next n m i h k = rw (drop-cons n i 0 h, drop-cons m i 0 k, add-one i) (equal_cons (get_or n i 0) (get_or m i 0) (drop (suc i) n) (drop (suc i) m))
-
-pub equal_end : (n m : List ℕ) (i : ℕ) → length n ≤ i → length m ≤ i → equal (drop i n) (drop i m) ≡ true
-unfolding equal
-equal_end n m i h k = rw (drop_of_length-le n {i = i} h, drop_of_length-le m {i = i} k)
+equal_pairs [] [] = refl
+equal_pairs [] (b ∷ m) = refl
+equal_pairs (a ∷ n) [] = refl
+equal_pairs (a ∷ n) (b ∷ m) = ap (◌&&◌ (eqb a b)) (equal_pairs n m)
 
 -- Other bytes are not equal.
 pub differs : (n m : List ℕ) → n ≢ m → equal n m ≡ false
@@ -49,6 +42,3 @@ differs n m d = go (equal n m) refl
     go : (b : Bool) → equal n m ≡ b → b ≡ false
     go true e = absurd (d (equal_true n m e))
     go false e = refl
-
-pub other_size : (n m : List ℕ) → length n ≢ length m → equal n m ≡ false
-other_size n m d = differs n m (λ e. d (ap length e))

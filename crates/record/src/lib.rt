@@ -245,17 +245,9 @@ impl Step {
     }
 }
 
-// Whether two pieces of files are the same: their lengths first.
+// Whether two pieces of files are the same.
 pub fn same(one: &[u8], other: &[u8]) -> bool
     ensures { result ≡ equal one.now other.now }
 {
-    if one.len() != other.len() {
-        return false;
-    }
-    for i in 0..one.len() {
-        if one[i] != other[i] {
-            return false;
-        }
-    }
-    true
+    one == other
 }

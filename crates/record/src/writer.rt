@@ -1,4 +1,4 @@
-// Bytes, little-endian numbers and a record's first four bytes, written from the first free byte of the part that is lent.
+// Bytes, little-endian numbers (as in number.rt one function for each width) and a record's first four bytes, written from the first free byte of the part that is lent.
 ghost use Rattle.std.specs.Prelude.{◌≡◌, ◌≤◌, length};
 ghost use Rattle.record.specs.Bytes.{bytes_of, over};
 ghost use Rattle.record.specs.Records.{opening_of};
@@ -10,9 +10,7 @@ pub fn put_bytes(out: &mut [u8], bytes: &[u8])
     requires { length bytes.now ≤ length out.old }
     ensures { out.new ≡ over bytes.now 0 out.old }
 {
-    for i in 0..bytes.len() {
-        out[i] = bytes[i];
-    }
+    out[..bytes.len()].copy_from_slice(bytes);
 }
 
 pub fn put16(out: &mut [u8], v: u16)
