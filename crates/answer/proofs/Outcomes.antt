@@ -7,7 +7,7 @@ use lib.ListN.{length, get_or, take, replicate}
 use lib.Seq.{get_or-take}
 use borrow.Author.Tests.{lt-ltb, le-ltb}
 use Rattle.record.specs.Bytes.{number_at, over}
-use Rattle.record.specs.Records.{refused}
+use Rattle.record.specs.Refusals.{refused}
 use Rattle.record.proofs.Over.{length_over}
 use Rattle.record.specs.declared.Cursor.{Cursor}
 use Rattle.record.specs.declared.refusal.Refusal.{Refusal}

@@ -1,7 +1,8 @@
 -- The tests of reading, which "writing makes on what it is given, placed as in the file": record by record, each at its place.
 use Rattle.std.specs.Prelude.{cond, List, ℕ, zero, suc, ◌+◌, eqb, get_or, Ok, Err}
 use Rattle.record.specs.Records as records
-use Rattle.record.specs.Records.{record_of, payload, refused, step, judged, onward, Passed}
+use Rattle.record.specs.Records.{record_of, payload, step, judged, onward, Passed}
+use Rattle.record.specs.Refusals.{refused}
 use Rattle.record.specs.declared.Cursor.{Cursor}
 use Rattle.answer.specs.Content.{Content}
 use Rattle.answer.specs.Rules.{head_fault, group_fault, floor_of, entry_fault, total_fault}

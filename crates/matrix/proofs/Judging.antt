@@ -9,7 +9,8 @@ use mathlib.Core.List.{List}
 use borrow.Author.Tests.{lt-ltb, le-ltb, eq-eqb, ne_eqb}
 use Rattle.taxa.specs.Sets.{◌∩◌, within, all}
 use Rattle.record.specs.Bytes.{number_at}
-use Rattle.record.specs.Records.{refused, onward, Passed}
+use Rattle.record.specs.Records.{onward, Passed}
+use Rattle.record.specs.Refusals.{refused}
 use Rattle.record.specs.declared.Cursor.{Cursor}
 use Rattle.record.specs.declared.refusal.Refusal.{Refusal}
 use Rattle.matrix.specs.declared.Column.{Column}

@@ -15,7 +15,8 @@ use Rattle.taxa.specs.Sets.{multiplicity, Multiplicities, Positive}
 use Rattle.taxa.proofs.Sums.{sum_≡, sum_tight, term_≤}
 use Rattle.record.specs.Bytes.{number_at}
 use Rattle.record.specs.Records as records
-use Rattle.record.specs.Records.{refused, multiplicity_record, record_bytes}
+use Rattle.record.specs.Records.{multiplicity_record, record_bytes}
+use Rattle.record.specs.Refusals.{refused}
 use Rattle.record.specs.declared.Cursor.{Cursor}
 use Rattle.record.proofs.Passing.{neither, unless}
 use Rattle.matrix.specs.Matrix.{Matrix, Merging, LegalMultiplicities, absent, given, Legal, multiplicity_bytes, has_multiplicities, multiplicity_count, multiplicities_in, columns_at}

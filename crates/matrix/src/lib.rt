@@ -12,7 +12,8 @@ ghost use Rattle.matrix.specs.inner.Planes.{Multiplied};
 ghost use Rattle.matrix.specs.Check as check;
 
 use record::number::{u16_at, u64_at};
-use record::{Cursor, Passed, Record, Refusal, Step};
+use record::refusal::{Reason, Refusal};
+use record::{Cursor, Record, Step};
 
 #[derive(Clone, Copy)]
 pub struct Column {
@@ -21,11 +22,11 @@ pub struct Column {
     pub zeros: u64,
 }
 
-// What the check of a matrix answers: n and m, or the refusal.
+// What the check of a matrix tells of one that it takes.
 #[derive(Clone, Copy)]
-pub enum Checked {
-    Taken(u16, u16),
-    Refused(Refusal),
+pub struct Shape {
+    pub n: u16,
+    pub m: u16,
 }
 
 impl Column {
@@ -42,56 +43,47 @@ impl Column {
     }
 
     // A column's own refusals, by number; `all` is the set of the n taxa.
-    fn judge(self, all: u64, place: usize, next: Cursor) -> Passed
+    fn judge(self, all: u64, place: usize, next: Cursor) -> Result<Cursor, Refusal>
         ensures { result ≡ check.column_judged all place self next }
     {
         if self.weight == 0 {
-            return Passed::Refused(Refusal { number: 5, place });
+            return Err(Reason::Weightless.at(place));
         }
         if !taxa::subset(self.ones, all) {
-            return Passed::Refused(Refusal { number: 6, place });
+            return Err(Reason::UnknownTaxon.at(place));
         }
         if !taxa::subset(self.zeros, all) {
-            return Passed::Refused(Refusal { number: 6, place });
+            return Err(Reason::UnknownTaxon.at(place));
         }
         if taxa::common(self.ones, self.zeros) != 0 {
-            return Passed::Refused(Refusal { number: 7, place });
+            return Err(Reason::BothSets.at(place));
         }
-        Passed::At(next)
+        Ok(next)
     }
 }
 
 // The head's own refusals, by number.
-fn judge_head(n: u16, m: u16, next: Cursor) -> Passed
+fn judge_head(n: u16, m: u16, next: Cursor) -> Result<Cursor, Refusal>
     ensures { result ≡ check.head_judged n m next }
 {
     if n == 0 {
-        return Passed::Refused(Refusal {
-            number: 3,
-            place: 0,
-        });
+        return Err(Reason::TaxonCount.at(0));
     }
     if 64 < n {
-        return Passed::Refused(Refusal {
-            number: 3,
-            place: 0,
-        });
+        return Err(Reason::TaxonCount.at(0));
     }
     if 256 < m {
-        return Passed::Refused(Refusal {
-            number: 4,
-            place: 0,
-        });
+        return Err(Reason::ColumnCount.at(0));
     }
-    Passed::At(next)
+    Ok(next)
 }
 
-fn pass_head(file: &[u8]) -> Passed
+fn pass_head(file: &[u8]) -> Result<Cursor, Refusal>
     ensures { result ≡ check.head_passed file.now }
 {
     let step = Cursor::start().read(file, Record::of(Record::MATRIX_HEAD));
     let Step::Payload(at, next) = step else {
-        return Passed::Refused(step.refusal());
+        return step.past();
     };
     judge_head(u16_at(file, at), u16_at(file, at + 2), next)
 }
@@ -107,99 +99,85 @@ fn has_multiplicities(file: &[u8]) -> bool
 }
 
 // The multiplicities' own refusal. None being 0, all are 1 where the sum is their number.
-fn judge_multiplicities(multiplicities: &[u8], place: usize, next: Cursor) -> Passed
+fn judge_multiplicities(
+    multiplicities: &[u8],
+    place: usize,
+    next: Cursor,
+) -> Result<Cursor, Refusal>
     requires { length multiplicities.now < 65536 }
     ensures { result ≡ check.multiplicities_judged multiplicities.now place next }
 {
     let mut sum: u32 = 0;
-    for i in 0..multiplicities.len() {
-        if multiplicities[i] == 0 {
-            return Passed::Refused(Refusal { number: 21, place });
+    for &one in multiplicities {
+        if one == 0 {
+            return Err(Reason::Multiplicities.at(place));
         }
-        sum += multiplicities[i] as u32;
+        sum += u32::from(one);
     }
     if 127 < sum {
-        return Passed::Refused(Refusal { number: 21, place });
+        return Err(Reason::Multiplicities.at(place));
     }
     if sum as usize == multiplicities.len() {
-        return Passed::Refused(Refusal { number: 21, place });
+        return Err(Reason::Multiplicities.at(place));
     }
-    Passed::At(next)
+    Ok(next)
 }
 
-fn pass_multiplicities(here: Cursor, file: &[u8], n: u16) -> Passed
+fn pass_multiplicities(here: Cursor, file: &[u8], n: u16) -> Result<Cursor, Refusal>
     ensures { result ≡ check.multiplicities_passed file.now n here }
 {
     if !has_multiplicities(file) {
-        return Passed::At(here);
+        return Ok(here);
     }
     let step = here.read(file, Record::multiplicities(n));
     let Step::Payload(at, next) = step else {
-        return Passed::Refused(step.refusal());
+        return step.past();
     };
     judge_multiplicities(&file[at..at + n as usize], here.at, next)
 }
 
-fn pass_column(here: Cursor, file: &[u8], all: u64) -> Passed
+fn pass_column(here: Cursor, file: &[u8], all: u64) -> Result<Cursor, Refusal>
     ensures { result ≡ check.column_passed file.now all here }
 {
     let step = here.read(file, Record::of(Record::COLUMN));
     let Step::Payload(at, next) = step else {
-        return Passed::Refused(step.refusal());
+        return step.past();
     };
     Column::read(file, at).judge(all, here.at, next)
 }
 
-fn pass_columns(here: Cursor, file: &[u8], all: u64, m: u16) -> Passed
+fn pass_columns(here: Cursor, file: &[u8], all: u64, m: u16) -> Result<Cursor, Refusal>
     ensures { result ≡ check.columns_passed file.now all m here }
 {
     let mut cursor = here;
-    let mut left = m;
-    while left > 0 {
-        let passed = pass_column(cursor, file, all);
-        let Passed::At(next) = passed else {
-            return passed;
-        };
-        cursor = next;
-        left -= 1;
+    for _ in 0..m {
+        cursor = pass_column(cursor, file, all)?;
     }
-    Passed::At(cursor)
+    Ok(cursor)
 }
 
 // The end record, and nothing after it.
-fn pass_end(here: Cursor, file: &[u8]) -> Passed
+fn pass_end(here: Cursor, file: &[u8]) -> Result<Cursor, Refusal>
     ensures { result ≡ check.end_passed file.now here }
 {
     let step = here.read(file, Record::of(Record::MATRIX_END));
     let Step::Payload(_, after) = step else {
-        return Passed::Refused(step.refusal());
+        return step.past();
     };
     after.nothing_after(file)
 }
 
 // The operation "check a matrix".
-pub fn check(file: &[u8]) -> Checked
+pub fn check(file: &[u8]) -> Result<Shape, Refusal>
     ensures { check.Checks file.now result }
 {
-    let head = pass_head(file);
-    let Passed::At(second) = head else {
-        return Checked::Refused(head.refusal());
-    };
+    let second = pass_head(file)?;
     let n = u16_at(file, 4);
     let m = u16_at(file, 6);
-    let multiplicities = pass_multiplicities(second, file, n);
-    let Passed::At(first) = multiplicities else {
-        return Checked::Refused(multiplicities.refusal());
-    };
-    let columns = pass_columns(first, file, taxa::all(n as u32), m);
-    let Passed::At(end) = columns else {
-        return Checked::Refused(columns.refusal());
-    };
-    let last = pass_end(end, file);
-    let Passed::At(_) = last else {
-        return Checked::Refused(last.refusal());
-    };
-    Checked::Taken(n, m)
+    let first = pass_multiplicities(second, file, n)?;
+    let end = pass_columns(first, file, taxa::all(u32::from(n)), m)?;
+    pass_end(end, file)?;
+    Ok(Shape { n, m })
 }
 
 // How many multiplicities a file holds.

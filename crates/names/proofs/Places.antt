@@ -11,7 +11,7 @@ use Rattle.grammar.specs.Columns.{Bytes}
 use Rattle.grammar.specs.Limits.{is_in}
 use Rattle.record.specs.Bytes.{number_at, File}
 use Rattle.record.specs.Records as records
-use Rattle.record.specs.Records.{record_of, refused, left, finds, varied, varying_step, judged, nothing_after, Passed}
+use Rattle.record.specs.Records.{record_of, left, finds, varied, varying_step, judged, nothing_after, Passed}
 use Rattle.record.specs.declared.Cursor.{Cursor}
 use Rattle.record.specs.declared.Record.{Record}
 use Rattle.record.specs.declared.refusal.Refusal.{Refusal}
@@ -26,7 +26,7 @@ use Rattle.names.proofs.Passing.{passing}
 use Rattle.names.proofs.Taken.{taken_is_file, taken_count}
 use Rattle.std.specs.Prelude.{Ok, Err}
 use Rattle.record.specs.declared.refusal.Reason.TheVariants as reason
-use Rattle.record.specs.Refusals.{refusal_number}
+use Rattle.record.specs.Refusals.{refused, refusal_number}
 
 module _ (file : List ℕ) where
   -- A refusal at a place of the file or at its end, by one of the check's numbers.

@@ -6,7 +6,8 @@ use Prim.Native.Nat.{ℕ, zero, suc, ◌≤◌, ◌<◌}
 use native.Mathlib.Omega.{arith}
 use Rattle.grammar.specs.Columns.{Bytes}
 use Rattle.record.specs.Records as records
-use Rattle.record.specs.Records.{record_of, refused, left, finds, Passed}
+use Rattle.record.specs.Records.{record_of, left, finds, Passed}
+use Rattle.record.specs.Refusals.{refused}
 use Rattle.record.specs.declared.Cursor.{Cursor}
 use Rattle.record.proofs.Steps.{no_opening, finds_none}
 use Rattle.names.specs.Names.{name_at}

@@ -13,14 +13,8 @@ ghost use Rattle.names.specs.Read.{Locates};
 ghost use Rattle.names.specs.inner.Places.{after, names_from, place_from, Whole, Stands};
 
 use record::number::u16_at;
-use record::{Cursor, Passed, Record, Refusal, Step, Varying};
-
-// What the check of a name list answers: how many names, or the refusal.
-#[derive(Clone, Copy)]
-pub enum Listed {
-    Taken(usize),
-    Refused(Refusal),
-}
+use record::refusal::{Reason, Refusal};
+use record::{Cursor, Record, Step, Varying};
 
 // Where a name stands in a file, and how long it is.
 #[derive(Clone, Copy)]
@@ -45,8 +39,8 @@ fn any_name() -> Varying
 fn is_spelt(name: &[u8]) -> bool
     ensures { result ≡ spelt name.now }
 {
-    for i in 0..name.len() {
-        if !grammar::is_letter(name[i]) {
+    for &byte in name {
+        if !grammar::is_letter(byte) {
             return false;
         }
     }
@@ -77,67 +71,58 @@ fn is_repeat(file: &[u8], count: usize, place: usize) -> bool
     ensures { result ≡ is_in (name_at file.now place) (names_from file.now count 0) }
 {
     let mut at = 0;
-    let mut left = count;
-    while left > 0 {
+    for _ in 0..count {
         if same_name(file, place, at) {
             return true;
         }
         at = after(file, at);
-        left -= 1;
     }
     false
 }
 
 // One name, after the first `count`: read, then judged.
-fn pass_name(here: Cursor, file: &[u8], count: usize) -> Passed
+fn pass_name(here: Cursor, file: &[u8], count: usize) -> Result<Cursor, Refusal>
     requires { here.at ≡ place_from file.now count 0 }
     ensures { result ≡ check.name_passed file.now (names_from file.now count 0) here }
 {
     let place = here.at;
     let step = here.read_varying(file, any_name());
     let Step::Payload(at, next) = step else {
-        return Passed::Refused(step.refusal());
+        return step.past();
     };
     let end = next.at;
     if !is_spelt(&file[at..end]) {
-        return Passed::Refused(Refusal { number: 16, place });
+        return Err(Reason::Misfit.at(place));
     }
     if is_repeat(file, count, place) {
-        return Passed::Refused(Refusal { number: 18, place });
+        return Err(Reason::Repeated.at(place));
     }
-    Passed::At(next)
+    Ok(next)
 }
 
 // The end record, and nothing after it.
-fn pass_end(here: Cursor, file: &[u8]) -> Passed
+fn pass_end(here: Cursor, file: &[u8]) -> Result<Cursor, Refusal>
     ensures { result ≡ check.end_passed file.now here }
 {
     let step = here.read(file, Record::of(Record::NAMES_END));
     let Step::Payload(_, after) = step else {
-        return Passed::Refused(step.refusal());
+        return step.past();
     };
     after.nothing_after(file)
 }
 
-// The operation "check a name list".
-pub fn check(file: &[u8]) -> Listed
+// The operation "check a name list": how many names it has.
+pub fn check(file: &[u8]) -> Result<usize, Refusal>
     ensures { check.Checks file.now result }
 {
     let mut cursor = Cursor::start();
     let mut count: usize = 0;
     while cursor.finds(file, Record::NAME) {
-        let passed = pass_name(cursor, file, count);
-        let Passed::At(next) = passed else {
-            return Listed::Refused(passed.refusal());
-        };
-        cursor = next;
+        cursor = pass_name(cursor, file, count)?;
         count += 1;
     }
-    let last = pass_end(cursor, file);
-    let Passed::At(_) = last else {
-        return Listed::Refused(last.refusal());
-    };
-    Listed::Taken(count)
+    pass_end(cursor, file)?;
+    Ok(count)
 }
 
 // Name number `index` of a file that the check takes with more than `index` names.
@@ -146,10 +131,8 @@ pub fn name_at(file: &[u8], index: usize) -> Found
     ensures { Locates file.now index result }
 {
     let mut at = 0;
-    let mut left = index;
-    while left > 0 {
+    for _ in 0..index {
         at = after(file, at);
-        left -= 1;
     }
     Found {
         place: at + 4,

@@ -62,7 +62,7 @@ told text matrix names e =
 
 -- An output is "shorter than what goes into it".
 abbrev no_room : Result Derived Refusal
-no_room = Err (records.refused reason.Room 0)
+no_room = Err (refused reason.Room 0)
 
 module _ {text starts sizes ones zeros : List ℕ} {n m : ℕ} (g : Found text starts sizes ones zeros n m) where
   abbrev names_found : List Bytes

@@ -82,7 +82,7 @@ module _ (text : List ℕ) (room space : ℕ) where
       (faults.refused_first text f, least, most, inside)
 
   -- "16 not of this grammar, or no tree, at the first byte that cannot stand there or the file's end".
-  pub sixteen_there : {place : ℕ} → Err (records.refused reason.Misfit place) ≡ read text room space → Fault text place
+  pub sixteen_there : {place : ℕ} → Err (refused reason.Misfit place) ≡ read text room space → Fault text place
   sixteen_there e = place_16 text (refused e (λ f. absurd (omega arith)))
 
 -- ---- what is left

@@ -38,7 +38,7 @@ use Rattle.newick.specs.declared.Derived.{Derived}
 
 pub data Comes (text : List ℕ) (room space : ℕ) : Result Derived Refusal → Type 0 where
   taken : (ts : Trees) → SourceTrees text ts → Fit ts room space → Comes text room space (Ok (record { matrix = matrix_room ts; names = names_room ts }))
-  short : (ts : Trees) → SourceTrees text ts → Short ts room space → Comes text room space (Err (records.refused reason.Room 0))
+  short : (ts : Trees) → SourceTrees text ts → Short ts room space → Comes text room space (Err (refused reason.Room 0))
   faulty : (number place : ℕ) → outcome text ≡ refused number place → Comes text room space (Err (records.refused number place))
 
 module _ {text : List ℕ} {ts : Trees} (s : SourceTrees text ts) where
@@ -49,12 +49,12 @@ module _ {text : List ℕ} {ts : Trees} (s : SourceTrees text ts) where
   unfolding read answered
   read_taken room space (a, b) = rw (trees_accepted, le-ltb room (matrix_room ts) a, le-ltb space (names_room ts) b)
 
-  pub read_short : (room space : ℕ) → Short ts room space → read text room space ≡ Err (records.refused reason.Room 0)
+  pub read_short : (room space : ℕ) → Short ts room space → read text room space ≡ Err (refused reason.Room 0)
   unfolding read answered
   read_short room space (inl a) = rw (trees_accepted, lt-ltb room (matrix_room ts) a)
   read_short room space (inr b) = rw (trees_accepted, lt-ltb space (names_room ts) b) (either (ltb room (matrix_room ts)))
     where
-      either : (c : Bool) → cond (c || true) (Err (records.refused reason.Room 0)) (Ok (record { matrix = matrix_room ts; names = names_room ts })) ≡ Err (records.refused reason.Room 0)
+      either : (c : Bool) → cond (c || true) (Err (refused reason.Room 0)) (Ok (record { matrix = matrix_room ts; names = names_room ts })) ≡ Err (refused reason.Room 0)
       either true = refl
       either false = refl
 

@@ -35,7 +35,7 @@ name_list (refused number place) = []
 unfoldable pub answered : Verdict Tally → ℕ → ℕ → Result Derived Refusal
 answered (refused number place) room space = Err (records.refused number place)
 answered (accepted ts x) room space =
-    cond (ltb room (length (matrix_file (accepted ts x))) || ltb space (length (name_list (accepted ts x)))) (Err (records.refused reason.Room 0))
+    cond (ltb room (length (matrix_file (accepted ts x))) || ltb space (length (name_list (accepted ts x)))) (Err (refused reason.Room 0))
     (Ok (record { matrix = length (matrix_file (accepted ts x)); names = length (name_list (accepted ts x)) }))
 
 -- What reading a text answers: the lengths of what is written.

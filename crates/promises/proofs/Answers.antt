@@ -11,7 +11,7 @@ use lib.ListN.{length, take, get_or-map}
 use lib.Seq.{take-suc, take-length}
 use borrow.Author.Tests.{le-ltb}
 use Rattle.record.specs.Bytes.{File}
-use Rattle.record.specs.Records.{refused}
+use Rattle.record.specs.Refusals.{refused}
 use Rattle.record.specs.declared.refusal.Refusal.{Refusal}
 use Rattle.matrix.specs.Check.{checked}
 use Rattle.answer.specs.Content.{Content, content_in, content_of, answer_of, file_of, length_of}

@@ -13,7 +13,7 @@ use lib.IntN.{ℤ}
 use lib.ListN.{length, take}
 use borrow.Author.Tests.{eqb-true, ne_eqb, le-ltb, ltb-false}
 use Rattle.record.specs.Bytes.{File, equal}
-use Rattle.record.specs.Records.{refused, Passed}
+use Rattle.record.specs.Records.{Passed}
 use Rattle.record.specs.declared.Cursor.{Cursor}
 use Rattle.record.specs.declared.refusal.Refusal.{Refusal}
 use Rattle.record.proofs.Equal.{equal_refl, equal_true}
@@ -47,7 +47,7 @@ use Rattle.promises.proofs.Answers.{leaves_file, answer_content, flips_are}
 use Rattle.std.specs.Prelude.{Result, Ok, Err}
 use Rattle.matrix.specs.Check.{shape}
 use Rattle.record.specs.declared.refusal.Reason.TheVariants as reason
-use Rattle.record.specs.Refusals.{refusal_number}
+use Rattle.record.specs.Refusals.{refused, refusal_number}
 use Rattle.matrix.specs.declared.Shape.{Shape}
 use Rattle.tree.specs.declared.Built.{Built}
 

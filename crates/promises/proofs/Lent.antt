@@ -15,7 +15,7 @@ use Rattle.taxa.specs.Sets.{count, sizes}
 use Rattle.taxa.proofs.Sums.{sum_bound, sum_none}
 use Rattle.taxa.proofs.Counts.{count_⊆, count_all, count_none}
 use Rattle.record.specs.Bytes.{File}
-use Rattle.record.specs.Records.{refused}
+use Rattle.record.specs.Refusals.{refused}
 use Rattle.matrix.specs.Check.{checked}
 use Rattle.method.specs.Tree.{Matrix, column, one_entries}
 use Rattle.search.specs.Workspace.{cleared}

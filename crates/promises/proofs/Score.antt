@@ -13,7 +13,8 @@ use borrow.Author.Tests.{eqb-true, eq-eqb}
 use Rattle.taxa.specs.Sum.{sum, inside}
 use Rattle.taxa.proofs.Sums.{sum_≡}
 use Rattle.record.specs.Bytes.{File}
-use Rattle.record.specs.Records.{refused, Passed}
+use Rattle.record.specs.Records.{Passed}
+use Rattle.record.specs.Refusals.{refused}
 use Rattle.matrix.specs.Matrix.{column_in, matrix_of}
 use Rattle.matrix.specs.Check.{checked}
 use Rattle.matrix.proofs.Taken.{taken_columns, taken_legal, taken_taxa}

@@ -13,7 +13,7 @@ use lib.Dec.{ltb, eqb, lit<, lit≤}
 use lib.ListN.{length, drop, length-append, length-drop}
 use borrow.Author.Tests.{lt-ltb, le-ltb, lt-leb, le-leb, eq-eqb, ne_eqb, ltb-false, eqb-true}
 use Rattle.record.specs.Bytes.{number_at, bytes_of, File}
-use Rattle.record.specs.Records.{left, refused, step, opening_of, record_bytes, finds, nothing_after}
+use Rattle.record.specs.Records.{left, step, opening_of, record_bytes, finds, nothing_after}
 use Rattle.record.specs.declared.Cursor.{Cursor}
 use Rattle.record.specs.declared.Record.{Record}
 use Rattle.record.specs.declared.refusal.Refusal.{Refusal}
@@ -21,7 +21,7 @@ use Rattle.record.specs.declared.Step.{Step}
 use Rattle.record.specs.declared.Step.TheVariants.{Payload, Refused}
 use Rattle.record.proofs.Numbers.{length_bytes, at_add, at_lt, past, read_bytes, bytes_read}
 use Rattle.record.specs.declared.refusal.Reason.TheVariants as reason
-use Rattle.record.specs.Refusals.{refusal_number}
+use Rattle.record.specs.Refusals.{refused, refusal_number}
 
 module _ (file : List ℕ) (at : ℕ) (it : Record) where
   pub no_opening : left file at < 4 → Refused (refused reason.CutShort at) ≡ step file at it

@@ -4,7 +4,7 @@ use Rattle.record.specs.Bytes.{number_at, bytes_of}
 use Rattle.record.specs.declared.Cursor.{Cursor}
 use Rattle.record.specs.declared.Record.{Record}
 use Rattle.record.specs.declared.Varying.{Varying}
-use Rattle.record.specs.declared.refusal.Reason.{Reason}
+use Rattle.record.specs.Refusals.{refused}
 use Rattle.record.specs.declared.refusal.Reason.TheVariants.{CutShort, Unexpected, Trailing}
 use Rattle.record.specs.declared.refusal.Refusal.{Refusal}
 use Rattle.record.specs.declared.Step.{Step}
@@ -72,10 +72,6 @@ multiplicity_record n = record { kind = multiplicities; length = n }
 -- How many bytes of a file are left from a place on.
 abbrev pub left : List ℕ → ℕ → ℕ
 left file at = length file - at
-
--- A refusal for a reason, at a place.
-abbrev pub refused : Reason → ℕ → Refusal
-refused reason place = record { reason = reason; place = place }
 
 -- What a reading that keeps no values comes to: the cursor moved on, or the refusal.
 abbrev pub Passed : Type 0

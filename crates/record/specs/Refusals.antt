@@ -1,7 +1,12 @@
 -- The refusals of documents 01 and 02, each with the number that they give it.
 use Rattle.std.specs.Prelude.{ℕ}
 use Rattle.record.specs.declared.refusal.Reason.{Reason}
+use Rattle.record.specs.declared.refusal.Refusal.{Refusal}
 use Rattle.record.specs.declared.refusal.Reason.TheVariants.{CutShort, Unexpected, TaxonCount, ColumnCount, Weightless, UnknownTaxon, BothSets, Trailing, Workspace, Room, GroupToSplit, Groups, Flips, Total, Differ, Misfit, LongName, Repeated, TooMany, TooDeep, Multiplicities, OtherTree}
+
+-- A refusal for a reason, at a place.
+abbrev pub refused : Reason → ℕ → Refusal
+refused reason place = record { reason = reason; place = place }
 
 -- The number of a reason: what C and the programs tell.
 abbrev pub refusal_number : Reason → ℕ

@@ -9,12 +9,11 @@ pub mod writer;
 
 ghost use Rattle.std.specs.Prelude.{◌≡◌, ◌+◌, ◌*◌, ◌≤◌, ◌<◌, length};
 ghost use Rattle.record.specs.Bytes.{equal};
-ghost use Rattle.record.specs.Records.{record_of, multiplicity_record, left, step, refused, past, nothing_after};
+ghost use Rattle.record.specs.Records.{record_of, multiplicity_record, left, step, past, nothing_after};
 ghost use Rattle.record.specs.Records.{allowed, varied, varying_step, finds};
 
 use number::{u16_at, u32_at};
-use refusal::Reason;
-pub use refusal::Refusal;
+use refusal::{Reason, Refusal};
 
 // What a record says of itself: its kind and how long its payload is.
 #[derive(Clone, Copy)]
@@ -153,17 +152,17 @@ impl Cursor {
         let at = self.at;
         let left = self.left(file);
         if left < 4 {
-            return Step::refused(Reason::CutShort, at);
+            return Step::Refused(Reason::CutShort.at(at));
         }
         if u16_at(file, at + 2) != expected.kind {
-            return Step::refused(Reason::Unexpected, at);
+            return Step::Refused(Reason::Unexpected.at(at));
         }
         if u16_at(file, at) != expected.length {
-            return Step::refused(Reason::Unexpected, at);
+            return Step::Refused(Reason::Unexpected.at(at));
         }
         let length = expected.length as usize;
         if left - 4 < length {
-            return Step::refused(Reason::CutShort, at);
+            return Step::Refused(Reason::CutShort.at(at));
         }
         Step::Payload(
             at + 4,
@@ -180,7 +179,7 @@ impl Cursor {
     {
         let at = self.at;
         if u32_at(file, at) != expected.opening() {
-            return Step::refused(Reason::Unexpected, at);
+            return Step::Refused(Reason::Unexpected.at(at));
         }
         Step::Payload(
             at + 4,
@@ -197,7 +196,7 @@ impl Cursor {
     {
         let at = self.at;
         if self.left(file) < 4 {
-            return Step::refused(Reason::CutShort, at);
+            return Step::Refused(Reason::CutShort.at(at));
         }
         self.read(file, expected.standing(u16_at(file, at)))
     }
@@ -218,22 +217,13 @@ impl Cursor {
         ensures { result ≡ nothing_after file.now self }
     {
         if 0 < self.left(file) {
-            return Err(Refusal {
-                reason: Reason::Trailing,
-                place: self.at,
-            });
+            return Err(Reason::Trailing.at(self.at));
         }
         Ok(self)
     }
 }
 
 impl Step {
-    fn refused(reason: Reason, place: usize) -> Self
-        ensures { result ≡ Step.Refused (refused reason place) }
-    {
-        Step::Refused(Refusal { reason, place })
-    }
-
     // Past the record, whatever its payload holds; or why it was refused.
     pub fn past(self) -> Result<Cursor, Refusal>
         ensures { result ≡ past self }

@@ -1,6 +1,6 @@
 // Why and where an input is refused: the refusals of documents 01 and 02, each with its number.
 ghost use Rattle.std.specs.Prelude.{◌≡◌};
-ghost use Rattle.record.specs.Refusals.{refusal_number};
+ghost use Rattle.record.specs.Refusals.{refused, refusal_number};
 
 use std::fmt;
 
@@ -32,6 +32,16 @@ pub enum Reason {
 }
 
 impl Reason {
+    // Told at a place.
+    pub fn at(self, place: usize) -> Refusal
+        ensures { result ≡ refused self place }
+    {
+        Refusal {
+            reason: self,
+            place,
+        }
+    }
+
     // The number that document 01 or 02 gives it.
     pub fn number(self) -> u8
         ensures { result ≡ refusal_number self }

@@ -5,7 +5,7 @@ use Prim.Native.Nat.{ℕ, zero, suc, ◌<◌}
 use native.Mathlib.Omega.{arith}
 use lib.ListN.{get_or, replicate}
 use borrow.Author.Tests.{eq-eqb, ne_eqb}
-use Rattle.record.specs.Records.{refused}
+use Rattle.record.specs.Refusals.{refused}
 use Rattle.record.specs.declared.Cursor.{Cursor}
 use Rattle.record.specs.declared.refusal.Refusal.{Refusal}
 use Rattle.matrix.specs.declared.Column.{Column}

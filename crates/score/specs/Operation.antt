@@ -1,7 +1,7 @@
 -- The operation "score": a matrix file and an answer file (document 01, "Operations and refusals").
 use Rattle.std.specs.Prelude.{◌≡◌, ◌&&◌, cond, List, ℕ, eqb, Result, Ok, Err}
 use Rattle.taxa.specs.Sets.{multiplicity}
-use Rattle.record.specs.Records.{refused, Passed}
+use Rattle.record.specs.Records.{Passed}
 use Rattle.record.specs.declared.Cursor.{Cursor}
 use Rattle.matrix.specs.declared.Column.{Column}
 use Rattle.matrix.specs.Matrix.{multiplicities_in, column_in}
@@ -14,7 +14,7 @@ use Rattle.score.specs.Score.{Node, node_for, raises_of, lowers_of}
 use Rattle.record.specs.declared.refusal.Refusal.{Refusal}
 use Rattle.matrix.specs.Check.{shape}
 use Rattle.record.specs.declared.refusal.Reason.TheVariants as reason
-use Rattle.record.specs.Refusals.{refusal_number}
+use Rattle.record.specs.Refusals.{refused, refusal_number}
 use Rattle.matrix.specs.declared.Shape.{Shape}
 use Rattle.score.specs.declared.Sums.{Sums}
 

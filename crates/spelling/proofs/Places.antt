@@ -9,7 +9,7 @@ use lib.Dec.{ltb, eqb}
 use lib.ListN.{length}
 use borrow.Author.Tests.{eqb-true}
 use Rattle.record.specs.Bytes.{File}
-use Rattle.record.specs.Records.{refused, Passed}
+use Rattle.record.specs.Records.{Passed}
 use Rattle.record.specs.declared.Cursor.{Cursor}
 use Rattle.record.proofs.Steps.{either_way}
 use Rattle.record.proofs.Places.{By}
@@ -23,7 +23,7 @@ use Rattle.spelling.proofs.Promises.{never_longer}
 use Rattle.std.specs.Prelude.{Result, Ok, Err}
 use Rattle.record.specs.declared.refusal.Refusal.{Refusal}
 use Rattle.record.specs.declared.refusal.Reason.TheVariants as reason
-use Rattle.record.specs.Refusals.{refusal_number}
+use Rattle.record.specs.Refusals.{refused, refusal_number}
 
 -- Of a list.
 abbrev pub Small : List ℕ → Result ℕ Refusal → Type 0

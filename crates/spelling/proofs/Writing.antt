@@ -8,7 +8,7 @@ use lib.ListN.{length}
 use borrow.Author.Tests.{eq-eqb, ne_eqb, lt-ltb, le-ltb}
 use Rattle.taxa.proofs.Members.{all_fits}
 use Rattle.record.specs.Bytes.{File, over}
-use Rattle.record.specs.Records.{refused}
+use Rattle.record.specs.Refusals.{refused}
 use Rattle.record.specs.declared.Cursor.{Cursor}
 use Rattle.record.specs.declared.refusal.Refusal.{Refusal}
 use Rattle.answer.specs.declared.Answer.{Answer}

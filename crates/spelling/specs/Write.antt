@@ -3,7 +3,7 @@
 use Rattle.std.specs.Prelude.{◌≡◌, cond, List, [], ℕ, ltb, eqb, length, get_or, Result, Ok, Err}
 use Rattle.taxa.specs.Sets.{all}
 use Rattle.record.specs.Bytes.{over}
-use Rattle.record.specs.Records.{refused, Passed}
+use Rattle.record.specs.Records.{Passed}
 use Rattle.record.specs.declared.Cursor.{Cursor}
 use Rattle.answer.specs.Content.{content_in}
 use Rattle.answer.specs.Reading.{file_tests}
@@ -14,7 +14,7 @@ use Rattle.clades.specs.Draw.{drawn}
 use Rattle.names.specs.Check.{names_in, checked}
 use Rattle.record.specs.declared.refusal.Refusal.{Refusal}
 use Rattle.record.specs.declared.refusal.Reason.TheVariants as reason
-use Rattle.record.specs.Refusals.{refusal_number}
+use Rattle.record.specs.Refusals.{refused, refusal_number}
 
 -- The name of taxon i by a name list file.
 abbrev pub name_in : List ℕ → ℕ → Bytes

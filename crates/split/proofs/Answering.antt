@@ -12,7 +12,7 @@ use Rattle.taxa.specs.Sets.{within, Positive, multiplicity, multiplicity_in, Tab
 use Rattle.taxa.proofs.Members.{⊆-≤, all_<, within_⊆}
 use Rattle.taxa.proofs.Counts.{count_width}
 use Rattle.record.specs.Bytes.{File}
-use Rattle.record.specs.Records.{refused}
+use Rattle.record.specs.Refusals.{refused}
 use Rattle.record.specs.declared.refusal.Refusal.{Refusal}
 use Rattle.matrix.specs.Check.{checked}
 use Rattle.method.specs.Split.{Column, side, split_cost, parted}

@@ -1,7 +1,6 @@
 -- The operation "split" (document 01): "a matrix, unflipped, and a group: cost, side A and t".
 use Rattle.std.specs.Prelude.{◌≡◌, Bool, ◌||◌, not, cond, List, ℕ, ltb, ℤ, length, Result, Ok, Err}
 use Rattle.taxa.specs.Sets.{within, multiplicity, count, all}
-use Rattle.record.specs.Records.{refused}
 use Rattle.matrix.specs.Check.{checked}
 use Rattle.method.specs.Split.{side, split_cost, parted}
 use Rattle.method.specs.Tree.{Matrix, column, one_entries}
@@ -9,7 +8,7 @@ use Rattle.search.specs.Workspace.{cleared}
 use Rattle.split.specs.Columns.{matrix_in}
 use Rattle.record.specs.declared.refusal.Refusal.{Refusal}
 use Rattle.record.specs.declared.refusal.Reason.TheVariants as reason
-use Rattle.record.specs.Refusals.{refusal_number}
+use Rattle.record.specs.Refusals.{refused, refusal_number}
 use Rattle.matrix.specs.declared.Shape.{Shape}
 use Rattle.search.specs.declared.Split.{Split}
 

@@ -11,7 +11,6 @@ use lib.IntN.{ℤ}
 use lib.ListN.{length}
 use borrow.Author.Tests.{ne_eqb, le-ltb}
 use Rattle.record.specs.Bytes.{equal, over}
-use Rattle.record.specs.Records.{refused}
 use Rattle.record.specs.declared.Cursor.{Cursor}
 use Rattle.record.specs.declared.refusal.Refusal.{Refusal}
 use Rattle.matrix.specs.Check.{checked}
@@ -29,7 +28,7 @@ use Rattle.tree.proofs.Rows.{lacks, lack_few, holds, output_left}
 use Rattle.std.specs.Prelude.{Result, Ok, Err}
 use Rattle.matrix.specs.Check.{shape}
 use Rattle.record.specs.declared.refusal.Reason.TheVariants as reason
-use Rattle.record.specs.Refusals.{refusal_number}
+use Rattle.record.specs.Refusals.{refused, refusal_number}
 use Rattle.tree.specs.declared.Built.{Built}
 
 -- ---- the workspace

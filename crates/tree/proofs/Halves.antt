@@ -9,7 +9,7 @@ use native.Mathlib.Omega.{arith}
 use lib.Dec.{ltb}
 use borrow.Author.Tests.{eq-eqb, le-ltb}
 use Rattle.record.specs.Bytes.{File, equal}
-use Rattle.record.specs.Records.{refused}
+use Rattle.record.specs.Refusals.{refused}
 use Rattle.record.specs.declared.Cursor.{Cursor}
 use Rattle.record.proofs.Equal.{equal_refl, differs}
 use Rattle.matrix.specs.Check.{checked}

@@ -1,7 +1,6 @@
 -- The operation "build": a matrix file, a lent workspace and a lent output (document 01, "Operations and refusals").
 use Rattle.std.specs.Prelude.{◌≡◌, cond, List, [], map, ℕ, ◌+◌, ◌-◌, ◌*◌, ltb, ℤ, length, Result, Ok, Err}
 use Rattle.record.specs.Bytes.{over}
-use Rattle.record.specs.Records.{refused}
 use Rattle.matrix.specs.Check.{checked}
 use Rattle.answer.specs.Content.{Content, file_of, length_of}
 use Rattle.method.specs.Tree.{Group, Flips, Matrix, one_entries, answer, total}
@@ -9,7 +8,7 @@ use Rattle.search.specs.Workspace.{cleared}
 use Rattle.split.specs.Columns.{matrix_in}
 use Rattle.record.specs.declared.refusal.Refusal.{Refusal}
 use Rattle.record.specs.declared.refusal.Reason.TheVariants as reason
-use Rattle.record.specs.Refusals.{refusal_number}
+use Rattle.record.specs.Refusals.{refused, refusal_number}
 use Rattle.matrix.specs.declared.Shape.{Shape}
 use Rattle.tree.specs.declared.Built.{Built}
 

@@ -1,7 +1,7 @@
 -- The operation "flips": "the matrix and those groups, as an answer file without flips", to the whole answer (document 02, C-18).
 use Rattle.std.specs.Prelude.{◌≡◌, ◌&&◌, cond, List, ℕ, eqb, ℤ, length, Result, Ok, Err}
 use Rattle.record.specs.Bytes.{equal}
-use Rattle.record.specs.Records.{refused, Passed}
+use Rattle.record.specs.Records.{Passed}
 use Rattle.matrix.specs.Check.{checked}
 use Rattle.answer.specs.Content.{content_in, file_of}
 use Rattle.answer.specs.Reading.{file_tests}
@@ -12,7 +12,7 @@ use Rattle.tree.specs.Build.{tree_for, tree_room, room_for, taken_of, if_enough,
 use Rattle.tree.specs.Tree.{tree_given}
 use Rattle.record.specs.declared.refusal.Refusal.{Refusal}
 use Rattle.record.specs.declared.refusal.Reason.TheVariants as reason
-use Rattle.record.specs.Refusals.{refusal_number}
+use Rattle.record.specs.Refusals.{refused, refusal_number}
 use Rattle.matrix.specs.declared.Shape.{Shape}
 use Rattle.tree.specs.declared.Built.{Built}
 

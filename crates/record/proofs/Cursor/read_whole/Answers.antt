@@ -1,6 +1,7 @@
 -- `record::Cursor::read_whole` meets its contract: length and kind are compared as one number.
-use mathlib.Core.Path.{◌∙◌}
+use mathlib.Core.Path.{ap, ◌∙◌}
 use native.Mathlib.Omega.{arith}
+use Rattle.record.specs.declared.Step.TheVariants.{Refused}
 use Rattle.record.specs.Bytes.{File}
 use Rattle.record.proofs.Steps as steps
 use Rattle.record.proofs.Cursor.read_whole.Goals as goal
@@ -8,7 +9,7 @@ use Rattle.record.proofs.Cursor.read_whole.Goals as goal
 pub returns-then-u32_at-opening : goal.returns-then-u32_at-opening
 returns-then-u32_at-opening c =
     let bytes : File c.args.file.now = record { byte = λ i. omega (arith, c.type_inv.file i) } in
-    c.refused.ensures ∙ steps.other_opening bytes _ _ (omega arith) (omega arith)
+    ap Refused c.at.ensures ∙ steps.other_opening bytes _ _ (omega arith) (omega arith)
 
 pub returns : goal.returns
 returns c =
