@@ -13,7 +13,7 @@ use Rattle.taxa.specs.Sets.{◌∩◌, ◌⊆◌, within}
 use Rattle.taxa.proofs.Members.{within_⊆}
 use Rattle.record.specs.Bytes.{number_at}
 use Rattle.record.specs.Records as records
-use Rattle.record.specs.Records.{record_of, multiplicity_record, step}
+use Rattle.record.specs.Records.{record_of, multiplicity_record, step, Passed}
 use Rattle.record.specs.declared.Cursor.{Cursor}
 use Rattle.record.proofs.Steps.{Held, held}
 use Rattle.record.proofs.Passing.{neither, unless, where_holds, through_step}
@@ -23,7 +23,7 @@ use Rattle.matrix.specs.Check.{head_judged, head_passed, multiplicities_passed, 
 use Rattle.matrix.proofs.Multiplying.{judged_multiplicities}
 use Rattle.std.specs.Prelude.{Ok}
 
-same_cursor : {a c : Cursor} → Ok a ≡ Ok c → c ≡ a
+same_cursor : {a c : Cursor} → ◌≡◌ {A = Passed} (Ok a) (Ok c) → c ≡ a
 same_cursor e = cc
 
 pub record Head (file : List ℕ) (next : Cursor) : Type 0 where

@@ -12,7 +12,7 @@ use Rattle.grammar.specs.Columns.{Bytes}
 use Rattle.grammar.specs.Limits.{is_in}
 use Rattle.record.specs.Bytes.{number_at}
 use Rattle.record.specs.Records as records
-use Rattle.record.specs.Records.{record_of, left, step, varying_step, nothing_after}
+use Rattle.record.specs.Records.{record_of, left, step, varying_step, nothing_after, Passed}
 use Rattle.record.specs.declared.Cursor.{Cursor}
 use Rattle.record.proofs.Steps.{Held, held}
 use Rattle.record.proofs.Lengths.{sized, allowed_is, varying_held}
@@ -30,7 +30,7 @@ pub record Passing (file : List ℕ) (before : List Bytes) (at : ℕ) (next : Cu
   pub letters : spelt (name_at file at) ≡ true
   pub new : is_in (name_at file at) before ≡ false
 
-same_cursor : {a c : Cursor} → Ok a ≡ Ok c → c ≡ a
+same_cursor : {a c : Cursor} → ◌≡◌ {A = Passed} (Ok a) (Ok c) → c ≡ a
 same_cursor e = cc
 
 judged_name : (before : List Bytes) (n : Bytes) (place : ℕ) (c : Cursor) {next : Cursor} → Ok next ≡ name_judged before n place c
