@@ -10,6 +10,7 @@ use native.Mathlib.Omega.{arith}
 use lib.Dec.{ltb, eqb}
 use lib.ListN.{length, get_or, take, drop}
 use borrow.Author.Tests.{lt-ltb, le-ltb, eq-eqb, eqb-true, ltb-true, ltb-false, not-false}
+use Rattle.std.specs.Prelude.{Ok, Err}
 use Rattle.taxa.specs.Sum.{sum}
 use Rattle.taxa.specs.Sets.{multiplicity, Multiplicities, Positive}
 use Rattle.taxa.proofs.Sums.{sum_≡, sum_tight, term_≤}
@@ -18,11 +19,10 @@ use Rattle.record.specs.Records as records
 use Rattle.record.specs.Records.{multiplicity_record, record_bytes, Passed}
 use Rattle.record.specs.Refusals.{refused}
 use Rattle.record.specs.declared.Cursor.{Cursor}
+use Rattle.record.specs.declared.refusal.Reason.TheVariants as reason
 use Rattle.record.proofs.Passing.{neither, unless}
 use Rattle.matrix.specs.Matrix.{Matrix, Merging, LegalMultiplicities, absent, given, Legal, multiplicity_bytes, has_multiplicities, multiplicity_count, multiplicities_in, columns_at}
 use Rattle.matrix.specs.Check.{every, wrong, multiplicities_judged}
-use Rattle.std.specs.Prelude.{Ok, Err}
-use Rattle.record.specs.declared.refusal.Reason.TheVariants as reason
 
 -- A multiplicity of a list is the number there, whatever stands for one that is missing.
 pub at_multiplicity : (ms : List ℕ) (i d : ℕ) → i < length ms → multiplicity ms i ≡ get_or ms i d

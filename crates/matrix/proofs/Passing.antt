@@ -9,6 +9,7 @@ use lib.Dec.{ltb, eqb}
 use lib.ListN.{length, take, drop, length-drop}
 use lib.Seq.{length-take-le}
 use borrow.Author.Tests.{ltb-false, eqb-true, eqb-false}
+use Rattle.std.specs.Prelude.{Ok}
 use Rattle.taxa.specs.Sets.{◌∩◌, ◌⊆◌, within}
 use Rattle.taxa.proofs.Members.{within_⊆}
 use Rattle.record.specs.Bytes.{number_at}
@@ -21,7 +22,6 @@ use Rattle.matrix.specs.declared.Column.{Column}
 use Rattle.matrix.specs.Matrix.{Merging, has_multiplicities, column_at}
 use Rattle.matrix.specs.Check.{head_judged, head_passed, multiplicities_passed, column_judged, column_passed}
 use Rattle.matrix.proofs.Multiplying.{judged_multiplicities}
-use Rattle.std.specs.Prelude.{Ok}
 
 same_cursor : {a c : Cursor} → ◌≡◌ {A = Passed} (Ok a) (Ok c) → c ≡ a
 same_cursor e = cc

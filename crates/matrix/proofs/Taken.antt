@@ -10,6 +10,7 @@ use lib.ListN.{length, get_or, take, drop, drop_of_length-le, take-append-drop}
 use lib.Seq.{drop-drop}
 use borrow.Author.Tests.{ltb-false}
 use lib.Dec.{ltb}
+use Rattle.std.specs.Prelude.{Ok, Err}
 use Rattle.taxa.specs.Sets.{all}
 use Rattle.record.specs.Bytes.{number_at, bytes_of, File}
 use Rattle.record.specs.Records as records
@@ -22,11 +23,9 @@ use Rattle.matrix.specs.declared.Column.{Column}
 use Rattle.matrix.specs.declared.Shape.{Shape}
 use Rattle.matrix.specs.Matrix.{Legal, LegalMultiplicities, absent, given, LegalColumn, LegalColumns, none, one, head_bytes, multiplicity_bytes, column_bytes, columns_bytes, end_bytes, file_of, has_multiplicities, multiplicities_in, columns_at, column_at, column_in, columns_from, matrix_of}
 use Rattle.matrix.specs.inner.Planes.{Multiplied}
-use Rattle.matrix.specs.Check.{head_passed, multiplicities_passed, column_passed, columns_passed, end_passed, file_passed, answered, checked}
+use Rattle.matrix.specs.Check.{head_passed, multiplicities_passed, column_passed, columns_passed, end_passed, file_passed, answered, checked, shape}
 use Rattle.matrix.proofs.Passing.{Head, head, There, there, not_there, Passing, passing}
 use Rattle.matrix.proofs.Multiplying.{multiplicities_there, columns_there, multiplicities_none, columns_none, before_columns, given_bytes, legal_fit}
-use Rattle.std.specs.Prelude.{Ok, Err}
-use Rattle.matrix.specs.Check.{shape}
 
 module _ {file : List ℕ} (f : File file) where
   -- ---- the records that were passed stand in the file

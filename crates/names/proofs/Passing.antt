@@ -8,6 +8,7 @@ use lib.Dec.{ltb, lit≤}
 use lib.ListN.{length, drop, length-drop}
 use lib.Seq.{length-take-le}
 use borrow.Author.Tests.{ltb-false}
+use Rattle.std.specs.Prelude.{Ok}
 use Rattle.grammar.specs.Columns.{Bytes}
 use Rattle.grammar.specs.Limits.{is_in}
 use Rattle.record.specs.Bytes.{number_at}
@@ -20,7 +21,6 @@ use Rattle.record.proofs.Passing.{unless, where_holds, through_step}
 use Rattle.names.specs.Names.{name_at}
 use Rattle.names.specs.inner.Places.{after}
 use Rattle.names.specs.Check.{any_name, spelt, name_judged, name_passed, end_passed}
-use Rattle.std.specs.Prelude.{Ok}
 
 -- The record of a name, 1 to 32 long, with no wrong byte and no repeat.
 pub record Passing (file : List ℕ) (before : List Bytes) (at : ℕ) (next : Cursor) : Type 0 where
