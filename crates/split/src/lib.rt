@@ -15,6 +15,7 @@ ghost use Rattle.split.specs.inner.Handing.{Parallel, Splittable};
 ghost use Rattle.split.specs.Columns.{matrix_in};
 ghost use Rattle.split.specs.Operation.{split_of, answered, workspace_after, Splits};
 
+use matrix::Shape;
 use record::refusal::{Reason, Refusal};
 use search::Split;
 
@@ -104,12 +105,6 @@ fn split_matrix(
 pub fn split(file: &[u8], group: u64, workspace: &mut [i32]) -> Result<Split, Refusal>
     ensures { Splits file.now group workspace.old result workspace.new }
 {
-    let shape = matrix::check(file)?;
-    split_matrix(
-        file,
-        group,
-        usize::from(shape.n),
-        usize::from(shape.m),
-        workspace,
-    )
+    let Shape { n, m } = matrix::check(file)?;
+    split_matrix(file, group, n as usize, m as usize, workspace)
 }

@@ -11,7 +11,7 @@ mod order;
 ghost use Rattle.std.specs.Prelude.{◌≡◌, ◌&&◌, ◌≤◌, ◌<◌, eqb, length};
 ghost use Rattle.matrix.specs.Check.{shape, checked};
 ghost use Rattle.answer.specs.Content.{content_in};
-ghost use Rattle.tree.specs.inner.Grow.{enough};
+ghost use Rattle.tree.specs.inner.Grow.{lent_checked};
 ghost use Rattle.tree.specs.Build.{tree_room, room_for, answered, output_after, workspace_after, Builds};
 ghost use Rattle.tree.specs.Tree.{tree_answered, tree_output, GivesTree};
 ghost use Rattle.tree.specs.Flips.{agreed, flips_workspace, GivesFlips};
@@ -30,8 +30,8 @@ pub struct Built {
 }
 
 // What is lent and too short: the workspace, or else the output.
-fn enough(space: usize, needed: usize, room: usize, wanted: usize) -> Result<(), Refusal>
-    ensures { result ≡ enough space needed room wanted }
+fn check_lent(space: usize, needed: usize, room: usize, wanted: usize) -> Result<(), Refusal>
+    ensures { result ≡ lent_checked space needed room wanted }
 {
     if space < needed {
         return Err(Reason::Workspace.at(0));
@@ -66,7 +66,7 @@ fn build_taken(file: &[u8], n: u16, m: u16, workspace: &mut [i32], out: &mut [u8
         × (workspace.new ≡ workspace_after file.now result workspace.old) }
 {
     let needed = columns::one_entries(file, m as usize);
-    enough(workspace.len(), needed, out.len(), answer_room(n, m))?;
+    check_lent(workspace.len(), needed, out.len(), answer_room(n, m))?;
     let mut ones = [0u64; 256];
     let mut zeros = [0u64; 256];
     let tree = groups::grow_tree(file, n, m, needed, workspace, &mut ones, &mut zeros);
@@ -89,7 +89,7 @@ fn tree_taken(file: &[u8], n: u16, m: u16, workspace: &mut [i32], out: &mut [u8]
         × (workspace.new ≡ workspace_after file.now result workspace.old) }
 {
     let needed = columns::one_entries(file, m as usize);
-    enough(workspace.len(), needed, out.len(), tree_room(n))?;
+    check_lent(workspace.len(), needed, out.len(), tree_room(n))?;
     let mut ones = [0u64; 256];
     let mut zeros = [0u64; 256];
     let tree = groups::grow_tree(file, n, m, needed, workspace, &mut ones, &mut zeros);
@@ -134,7 +134,7 @@ fn flips_taken(
         return Err(Reason::Differ.at(0));
     }
     let needed = columns::one_entries(file, m as usize);
-    enough(workspace.len(), needed, out.len(), answer_room(n, m))?;
+    check_lent(workspace.len(), needed, out.len(), answer_room(n, m))?;
     let mut ones = [0u64; 256];
     let mut zeros = [0u64; 256];
     let own = groups::grow_tree(file, n, m, needed, workspace, &mut ones, &mut zeros);
