@@ -70,6 +70,14 @@ module _ (space needed room wanted : ℕ) where
       go false true p q e = absurd (let z : ◌≡◌ {A = ℕ} 0 1 = cc in omega arith)
       go false false p q e = (omega (arith, ltb-false space needed p), omega (arith, ltb-false room wanted q))
 
+-- The same, where what is asked for was told in other words.
+module _ {space room needed wanted ones most : ℕ} (n : needed ≡ ones) (w : wanted ≡ most) where
+  pub lent_lacks : {why : Refusal} → Err why ≡ lent_checked space needed room wanted → Err why ≡ lent_checked space ones room most
+  lent_lacks e = e ∙ (λ i. lent_checked space (n i) room (w i))
+
+  pub lent_enough : Ok tt ≡ lent_checked space needed room wanted → (ones ≤ space) × (most ≤ room)
+  lent_enough e = enough space ones room most (e ∙ (λ i. lent_checked space (n i) room (w i)))
+
 module _ (file : List ℕ) (space room wanted : ℕ) (r : Result Built Refusal) where
   abbrev needed : ℕ
   needed = one_entries (matrix_in file)
