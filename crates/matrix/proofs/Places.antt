@@ -98,12 +98,12 @@ module _ (file : List ℕ) where
 
   abbrev Small : Result Shape Refusal → Type 0
   Small (Ok it) = Unit {0}
-  Small (Err why) = (why.place ≤ largest) × (0 < (refusal_number why.reason)) × ((refusal_number why.reason) ≤ 21) × (8 < (refusal_number why.reason) → (refusal_number why.reason) ≡ 21)
+  Small (Err why) = (why.place ≤ largest) × (0 < refusal_number why.reason) × ((refusal_number why.reason) ≤ 21) × (8 < (refusal_number why.reason) → (refusal_number why.reason) ≡ 21)
 
   small : (n m : ℕ) (p : Passed) → By Number largest p → Small (answered n m p)
   small n m (Ok here) b = tt
   small n m (Err why) b = (b.0, b.1.0, b.1.1, b.1.2)
 
-  pub refusal_small : {why : Refusal} → Err why ≡ checked file → (why.place ≤ largest) × (0 < (refusal_number why.reason)) × ((refusal_number why.reason) ≤ 21) × (8 < (refusal_number why.reason) → (refusal_number why.reason) ≡ 21)
+  pub refusal_small : {why : Refusal} → Err why ≡ checked file → (why.place ≤ largest) × (0 < refusal_number why.reason) × ((refusal_number why.reason) ≤ 21) × (8 < (refusal_number why.reason) → (refusal_number why.reason) ≡ 21)
   unfolding checked
   refusal_small e = rw (← e) at (small (number_at 2 file 4) (number_at 2 file 6) (file_passed file) all_by)

@@ -31,7 +31,7 @@ use Rattle.record.specs.Refusals.{refused, refusal_number}
 module _ (file : List ℕ) where
   -- A refusal at a place of the file or at its end, by one of the check's numbers.
   abbrev Placed : Refusal → Type 0
-  Placed why = (why.place ≤ length file) × (0 < (refusal_number why.reason)) × ((refusal_number why.reason) ≤ 18)
+  Placed why = (why.place ≤ length file) × (0 < refusal_number why.reason) × ((refusal_number why.reason) ≤ 18)
 
   -- If it is refused, it is there: a reading that keeps no values, and the whole.
   abbrev Told : Passed → Type 0
@@ -91,7 +91,7 @@ module _ (file : List ℕ) where
   told_counted (names ns) t e = absurd (let z : ◌≡◌ {A = ℕ} 0 1 = cc in omega arith)
   told_counted (refusal it) {why} t e = let same : why ≡ it = cc in rw same t
 
-  pub refusal_there : {why : Refusal} → Err why ≡ checked file → (why.place ≤ length file) × (0 < (refusal_number why.reason)) × ((refusal_number why.reason) ≤ 18)
+  pub refusal_there : {why : Refusal} → Err why ≡ checked file → (why.place ≤ length file) × (0 < refusal_number why.reason) × ((refusal_number why.reason) ≤ 18)
   unfolding checked listed
   refusal_there e = told_counted (listed file) (told_in (left file 0) [] (record { at = 0 }) (omega arith)) e
 

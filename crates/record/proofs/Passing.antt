@@ -1,6 +1,6 @@
 -- A reading that passes has passed each of its tests and steps: how a test that would have refused (`unless`), one that had to hold (`where_holds`),
--- a step (`through_step`) and a reading before another (`through`) are undone.
-use mathlib.Core.Path.{◌≡◌, refl}
+-- a step (`through_step`) and a reading before another (`through`) are undone. And what `?` hands on of one that is refused (`handed_on`).
+use mathlib.Core.Path.{◌≡◌, refl, ap, ◌∙◌}
 use mathlib.Core.Bool.{Bool, true, false, ◌||◌, cond, true≢false}
 use Prim.Native.Nat.{ℕ}
 use native.Mathlib.Omega.{arith}
@@ -9,7 +9,9 @@ use Rattle.record.specs.declared.Cursor.{Cursor}
 use Rattle.record.specs.declared.refusal.Refusal.{Refusal}
 use Rattle.record.specs.declared.Step.{Step}
 use Rattle.record.specs.declared.Step.TheVariants as step
-use Rattle.std.specs.Prelude.{Ok, Err}
+use Rattle.std.specs.Prelude.{Result, Ok, Err}
+use Rattle.std.specs.Result.{IsErrAnd}
+use Rattle.std.proofs.lemmas.Result.{err_from_is_err_and}
 
 -- Neither of two tests held.
 pub neither : (a b : Bool) → (a || b) ≡ false → (a ≡ false) × (b ≡ false)
@@ -35,3 +37,7 @@ module _ {next : Cursor} where
   pub through : (p : Passed) {go : Cursor → Passed} → Ok next ≡ onward p go → (c : Cursor) × (Ok c ≡ p) × (Ok next ≡ go c)
   through (Ok c) e = (c, refl, e)
   through (Err why) e = absurd (never e)
+
+-- `?` hands on the refusal that it was given.
+pub handed_on : {T : Type 0} (r : Result T Refusal) (why : Refusal) → IsErrAnd r (λ y. y ≡ why) → r ≡ Err why
+handed_on r why h = let p = err_from_is_err_and r h in p.1 ∙ ap Err p.2

@@ -28,7 +28,7 @@ use Rattle.record.specs.Refusals.{refused, refusal_number}
 -- Of a list.
 abbrev pub Small : List ℕ → Result ℕ Refusal → Type 0
 Small list (Ok size) = size ≤ 2238
-Small list (Err why) = (why.place ≤ max largest (length list)) × (0 < (refusal_number why.reason)) × ((refusal_number why.reason) ≤ 18)
+Small list (Err why) = (why.place ≤ max largest (length list)) × (0 < refusal_number why.reason) × ((refusal_number why.reason) ≤ 18)
 
 module _ {answer : List ℕ} (f : File answer) (list : List ℕ) (room : ℕ) where
   both_small : {here : Cursor} → Ok here ≡ file_tests answer → {count : ℕ} → Ok count ≡ checked list → Small list (after_both answer list count room)
