@@ -14,7 +14,7 @@ use Rattle.record.specs.Refusals.{refusal_number}
 
 -- Passed, or refused by a number above 0.
 pub record Numbered (p : Passed) : Type 0 where
-  pub above : {why : Refusal} → Err why ≡ p → 0 < (refusal_number why.reason)
+  pub above : {why : Refusal} → Err why ≡ p → 0 < refusal_number why.reason
 
 numbered : (p : Passed) → By Few largest p → Numbered p
 numbered p b = record { above = λ e. (rw (← e) at b).1.0 }

@@ -8,7 +8,6 @@ use borrow.Author.Tests.{eq-eqb, ne_eqb}
 use Rattle.record.specs.declared.Cursor.{Cursor}
 use Rattle.record.specs.declared.refusal.Refusal.{Refusal}
 use Rattle.matrix.specs.Check as check
-use Rattle.answer.specs.declared.Verdict.TheVariants as verdict
 use Rattle.answer.specs.Content.{Content, padded, answer_of}
 use Rattle.answer.specs.Reading as reading
 use Rattle.answer.specs.Reading.{empty, answered}
@@ -44,7 +43,7 @@ module _ (why : Refusal) (fits : RefusalFits why) where
   flag : bits v 63 1 ≡ 1
   flag = omega arith
 
-  number : number_in v ≡ (refusal_number why.reason)
+  number : number_in v ≡ refusal_number why.reason
   unfolding number_in
   number = rw (eq-eqb _ _ flag) (omega arith)
 
@@ -87,8 +86,8 @@ pub check_returns : (a : Result Shape Refusal) → CheckFits a → unpacked (pac
 check_returns (Ok it) (l, k) =
     let v = it.n + 65536 * it.m in
     let low : v < 2 ^ 63 = omega arith in
-    let first : bits v 0 16 ≡ n = omega arith in
-    let second : bits v 16 16 ≡ m = omega arith in
+    let first : bits v 0 16 ≡ it.n = omega arith in
+    let second : bits v 16 16 ≡ it.m = omega arith in
     λ i. record { number = no_number v low i; place = no_place v low i; n = (result v low 0 16 ∙ first) i; m = (result v low 16 16 ∙ second) i }
 check_returns (Err why) fits =
     λ i. record { number = number why fits i; place = place why fits i; n = no_result why fits 0 16 i; m = no_result why fits 16 16 i }
@@ -97,8 +96,8 @@ pub build_returns : (a : Result Built Refusal) → BuildFits a → unpacked_buil
 build_returns (Ok it) (l, k) =
     let v = it.total + 2 ^ 32 * it.size in
     let low : v < 2 ^ 63 = omega arith in
-    let first : bits v 32 31 ≡ size = omega arith in
-    let second : bits v 0 32 ≡ sum = omega arith in
+    let first : bits v 32 31 ≡ it.size = omega arith in
+    let second : bits v 0 32 ≡ it.total = omega arith in
     λ i. record { number = no_number v low i; place = no_place v low i; size = (result v low 32 31 ∙ first) i; sum = (result v low 0 32 ∙ second) i }
 build_returns (Err why) fits =
     λ i. record { number = number why fits i; place = place why fits i; size = no_result why fits 32 31 i; sum = no_result why fits 0 32 i }
@@ -115,7 +114,7 @@ pub split_returns : (a : Result Split Refusal) → SplitFits a → (before : Lis
     → unpacked_split (packed_split a) (result_after a before) ≡ split.returned a
 split_returns (Ok it) fits before three =
     let low : ◌<◌ 0 (2 ^ 63) = omega arith in
-    let lent : (k : ℕ) → lent_result 0 0 (get_or (result_after (Ok (record { cost = it.cost; side = it.side; other = it.other })) before) k 0) ≡ get_or (it.cost ∷ it.side ∷ it.other ∷ []) k 0
+    let lent : (k : ℕ) → lent_result 0 0 (get_or (result_after (Ok it) before) k 0) ≡ get_or (it.cost ∷ it.side ∷ it.other ∷ []) k 0
     = λ k. lent_result_lem 0 low 0 _ ∙ ap (λ (xs : List ℕ). get_or xs k 0) (all_set before three it.cost it.side it.other) in
     λ i. record { number = no_number 0 low i; place = no_place 0 low i; cost = lent 0 i; side = lent 1 i; t = lent 2 i }
 split_returns (Err why) fits before three =
@@ -124,12 +123,12 @@ split_returns (Err why) fits before three =
 
 -- Of a refused reading the value is that of an empty content.
 pub read_returns : (c : Content) (p : Passed) (before : List ℕ) → length before ≡ 131 → let r = answered c p in
-    ((here : Cursor) → Ok here ≡ p → (length (padded c.taxa) ≡ 63) × (length (padded c.costs) ≡ 63)) → ReadFits r.verdict
-    → unpacked_read (packed_read r.verdict) (value_after r.verdict r.answer before) ≡ reading.returned r
+    ((here : Cursor) → Ok here ≡ p → (length (padded c.taxa) ≡ 63) × (length (padded c.costs) ≡ 63)) → ReadFits r
+    → unpacked_read (packed_read r) (value_after r before) ≡ reading.returned r
 read_returns c (Ok here) before long full fits =
     let low : ◌<◌ 0 (2 ^ 63) = omega arith in
     let (taxa, costs) = full here refl in
-    let value = lent_result_lem 0 low (answer_of empty) (value_in (value_after verdict.Taken (answer_of c) before)) ∙ value_put (answer_of c) before long taxa costs in
+    let value = lent_result_lem 0 low (answer_of empty) (value_in (value_after (Ok (answer_of c)) before)) ∙ value_put (answer_of c) before long taxa costs in
     λ i. record { number = no_number 0 low i; place = no_place 0 low i; answer = value i }
 read_returns c (Err why) before long full fits =
     λ i. record { number = number why fits i; place = place why fits i; answer = none_lent why fits (answer_of empty) (value_in before) i }
@@ -169,8 +168,8 @@ pub trees_returns : (a : Result Derived Refusal) → TreesFit a → (newick.retu
 trees_returns (Ok it) (l, k) near =
     let v = it.names + 2 ^ 32 * it.matrix in
     let low : v < 2 ^ 63 = omega arith in
-    let first : bits v 32 31 ≡ matrix = omega arith in
-    let second : bits v 0 32 ≡ list = omega arith in
+    let first : bits v 32 31 ≡ it.matrix = omega arith in
+    let second : bits v 0 32 ≡ it.names = omega arith in
     λ i. record { number = no_number v low i; place = no_place v low i; matrix = (result v low 32 31 ∙ first) i; names = (result v low 0 32 ∙ second) i }
 trees_returns (Err why) fits near =
     let w = told why in

@@ -9,8 +9,7 @@ use Rattle.record.specs.Bytes.{File}
 use Rattle.matrix.specs.Check.{checked}
 use Rattle.matrix.proofs.Places.{refusal_small}
 use Rattle.matrix.proofs.Taken.{taken_legal, taken_taxa, taken_columns}
-use Rattle.answer.specs.declared.Verdict.{Verdict}
-use Rattle.answer.specs.declared.Verdict.TheVariants as verdict
+use Rattle.answer.specs.declared.Answer.{Answer}
 use Rattle.answer.specs.Content.{Content}
 use Rattle.answer.specs.Reading.{reading}
 use Rattle.answer.specs.Writing.{writing}
@@ -74,12 +73,12 @@ split_fits file S room = go (divided file S room) refl
     go (Ok it) e = tt
     go (Err why) e = let (near, few) = split_refused_small file S room e in (omega arith, omega arith)
 
-pub read_fits : (file : List ℕ) (room : ℕ) → ReadFits (reading file room).verdict
-read_fits file room = go (reading file room).verdict refl
+pub read_fits : (file : List ℕ) (room : ℕ) → ReadFits (reading file room)
+read_fits file room = go (reading file room) refl
   where
-    go : (a : Verdict) → a ≡ (reading file room).verdict → ReadFits a
-    go verdict.Taken e = tt
-    go (verdict.Refused why) e = let (near, few) = reading_small file room e in (omega arith, omega arith)
+    go : (a : Result Answer Refusal) → a ≡ reading file room → ReadFits a
+    go (Ok answer) e = tt
+    go (Err why) e = let (near, few) = reading_small file room e in (omega arith, omega arith)
 
 pub write_fits : (c : Content) (listed room : ℕ) → WriteFits (writing c listed room)
 write_fits c listed room = go (writing c listed room) refl

@@ -12,7 +12,6 @@ use Rattle.record.specs.declared.Cursor.{Cursor}
 use Rattle.record.proofs.Over.{length_over}
 use Rattle.record.proofs.Passing.{through}
 use Rattle.answer.specs.declared.Answer.{Answer}
-use Rattle.answer.specs.declared.Verdict.TheVariants.{Taken}
 use Rattle.answer.specs.Content.{content_in, flip_count, taxa_in, costs_in, padded}
 use Rattle.answer.specs.Tests.{in_file, tests}
 use Rattle.answer.specs.Reading.{file_tests, read_tests}
@@ -87,10 +86,10 @@ five_set (u ∷ v ∷ []) long a b c d e = absurd (omega arith)
 five_set (u ∷ v ∷ w ∷ []) long a b c d e = absurd (omega arith)
 five_set (u ∷ v ∷ w ∷ x ∷ []) long a b c d e = absurd (omega arith)
 
-pub value_put : (a : Answer) (before : List ℕ) → length before ≡ 131 → length a.taxa ≡ 63 → length a.costs ≡ 63 → value_in (value_after Taken a before) ≡ a
+pub value_put : (a : Answer) (before : List ℕ) → length before ≡ 131 → length a.taxa ≡ 63 → length a.costs ≡ 63 → value_in (value_after (Ok a) before) ≡ a
 value_put a before long full full' =
     let five : List ℕ = set (set (set (set (set before 0 a.n) 1 a.m) 2 a.groups) 3 a.flips) 4 a.total in
-    let after : ℕ → ℕ = λ j. get_or (value_after Taken a before) j 0 in
+    let after : ℕ → ℕ = λ j. get_or (value_after (Ok a) before) j 0 in
     let (long', n, m, groups, flips, total) = five_set before long a.n a.m a.groups a.flips a.total in
     let kept : (j : ℕ) → j < groups_at → after j ≡ get_or five j 0 = λ j l. head_kept a.taxa a.costs five long' j 63 l in
     let taxa : (k : ℕ) → k < 63 → after (groups_at + k) ≡ get_or a.taxa k 0 = λ k l. group_at a.taxa a.costs five long' 63 k (lit≤ tt) l in

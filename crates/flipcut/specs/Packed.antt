@@ -6,9 +6,6 @@
 use Rattle.std.specs.Prelude.{◌≡◌, List, ℕ, zero, suc, ◌+◌, ◌-◌, ◌*◌, ◌^◌, min, ℤ, get_or, set, Result, Ok, Err}
 use Rattle.record.specs.declared.refusal.Refusal.{Refusal}
 use Rattle.answer.specs.declared.Answer.{Answer}
-use Rattle.answer.specs.declared.Reading.{Reading}
-use Rattle.answer.specs.declared.Verdict.{Verdict}
-use Rattle.answer.specs.declared.Verdict.TheVariants as verdict
 use Rattle.entries.specs.declared.Flip.{Flip}
 use Rattle.entries.specs.Entries.{ReadsEntries, WritesEntries}
 use Rattle.split.specs.Operation.{Splits}
@@ -26,7 +23,7 @@ use Rattle.newick.specs.declared.Derived.{Derived}
 
 -- A refusal, packed.
 abbrev pub packed_refusal : Refusal → ℕ
-packed_refusal why = 2 ^ 63 + ((refusal_number why.reason) + 256 * why.place)
+packed_refusal why = 2 ^ 63 + (refusal_number why.reason + 256 * why.place)
 
 -- What the check answers, packed.
 abbrev pub packed : Result Shape Refusal → ℕ
@@ -44,9 +41,9 @@ packed_split (Ok it) = 0
 packed_split (Err why) = packed_refusal why
 
 -- What reading answers: 0, and the rest where it is lent.
-abbrev pub packed_read : Verdict → ℕ
-packed_read verdict.Taken = 0
-packed_read (verdict.Refused why) = packed_refusal why
+abbrev pub packed_read : Result Answer Refusal → ℕ
+packed_read (Ok answer) = 0
+packed_read (Err why) = packed_refusal why
 
 -- What writing answers.
 abbrev pub packed_write : Result ℕ Refusal → ℕ
@@ -63,7 +60,7 @@ abbrev pub last_place : ℕ
 last_place = 2 ^ 55 - 1
 
 abbrev pub told : Refusal → Refusal
-told why = record { number = refusal_number why.reason; place = min why.place last_place }
+told why = record { reason = why.reason; place = min why.place last_place }
 
 -- What the check of a name list answers.
 abbrev pub packed_names : Result ℕ Refusal → ℕ
@@ -99,10 +96,10 @@ with_groups (suc k) taxa costs result = set (set (with_groups k taxa costs resul
 
 -- What a reading's 131 lent numbers are at the end: n, m, the two counts and the total, then the value's 63 groups, then its 63 costs; on a refusal what
 -- they were.
-abbrev pub value_after : Verdict → Answer → List ℕ → List ℕ
-value_after verdict.Taken a result =
+abbrev pub value_after : Result Answer Refusal → List ℕ → List ℕ
+value_after (Ok a) result =
     with_groups 63 a.taxa a.costs (set (set (set (set (set result 0 a.n) 1 a.m) 2 a.groups) 3 a.flips) 4 a.total)
-value_after (verdict.Refused why) a result = result
+value_after (Err why) result = result
 
 -- A number that is some answer of an operation, packed, with what the operation promises of that answer.
 pub record Packs {A : Type 0} (pack : A → ℕ) (Promised : A → Type 0) (v : ℕ) : Type 0 where
@@ -129,7 +126,7 @@ SplitsPacked file S ws result v ws' result' = Packs packed_split (λ r. Splits f
 -- What reading promises C; 131 numbers are lent for what it reads beside the flips.
 abbrev pub ReadsPacked : List ℕ → List Flip → List ℕ → ℕ → List Flip → List ℕ → Type 0
 ReadsPacked file list result v list' result' =
-    Packs (λ (r : Reading). packed_read r.verdict) (λ r. ReadsEntries file list r list' × (result' ≡ value_after r.verdict r.answer result)) v
+    Packs packed_read (λ r. ReadsEntries file list r list' × (result' ≡ value_after r result)) v
 
 -- What writing promises C.
 abbrev pub WritesPacked : Answer → List Flip → List ℕ → ℕ → List ℕ → Type 0

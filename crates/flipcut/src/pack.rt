@@ -1,19 +1,16 @@
 // What packs: the answer of each operation as one number.
-ghost use Rattle.std.specs.Prelude.{◌≡◌, min};
+ghost use Rattle.std.specs.Prelude.{◌≡◌};
 ghost use Rattle.flipcut.specs.Packed.{packed, packed_build, packed_read, packed_refusal, packed_score, packed_split, packed_write};
-ghost use Rattle.flipcut.specs.Packed.{packed_names, packed_text, packed_trees, last_place, told, result_after, value_after, with_groups};
-ghost use Rattle.answer.specs.declared.Verdict.TheVariants.{Taken};
+ghost use Rattle.flipcut.specs.Packed.{packed_names, packed_text, packed_trees, told, result_after, value_after, with_groups};
 ghost use Rattle.flipcut.specs.inner.Fitting.{RefusalFits, CheckFits, BuildFits, SplitFits, ReadFits, WriteFits, ScoreFits};
 ghost use Rattle.flipcut.specs.inner.Fitting.{TreesFit, TextFits};
 
-use answer::{Answer, Reading, Verdict, Written};
-use matrix::Checked;
-use names::Listed;
+use answer::Answer;
+use matrix::Shape;
 use newick::Derived;
-use record::Refusal;
-use score::Scored;
-use spelling::Spelled;
-use split::Divided;
+use record::refusal::Refusal;
+use score::Sums;
+use search::Split;
 use tree::Built;
 
 const MOST_GROUPS: usize = 63;
@@ -35,42 +32,42 @@ fn refusal(why: Refusal) -> u64
     requires { RefusalFits why }
     ensures { result ≡ packed_refusal why }
 {
-    0x8000_0000_0000_0000 + (why.number as u64 + 256 * why.place as u64)
+    0x8000_0000_0000_0000 + (u64::from(why.reason.number()) + 256 * why.place as u64)
 }
 
-pub fn check(answer: Checked) -> u64
+pub fn check(answer: Result<Shape, Refusal>) -> u64
     requires { CheckFits answer }
     ensures { result ≡ packed answer }
 {
     match answer {
-        Checked::Taken(n, m) => n as u64 + 65536 * m as u64,
-        Checked::Refused(why) => refusal(why),
+        Ok(shape) => u64::from(shape.n) + 65536 * u64::from(shape.m),
+        Err(why) => refusal(why),
     }
 }
 
-pub fn build(answer: Built) -> u64
+pub fn build(answer: Result<Built, Refusal>) -> u64
     requires { BuildFits answer }
     ensures { result ≡ packed_build answer }
 {
     match answer {
-        Built::Taken(size, total) => total as u64 + 0x1_0000_0000 * size as u64,
-        Built::Refused(why) => refusal(why),
+        Ok(built) => u64::from(built.total) + 0x1_0000_0000 * built.size as u64,
+        Err(why) => refusal(why),
     }
 }
 
 // What was found is put into `result`.
-pub fn split(answer: Divided, res: &mut [u64; SPLIT_RESULTS]) -> u64
+pub fn split(answer: Result<Split, Refusal>, res: &mut [u64; SPLIT_RESULTS]) -> u64
     requires { SplitFits answer }
     ensures { (result ≡ packed_split answer) × (res.new ≡ result_after answer res.old) }
 {
     match answer {
-        Divided::Taken(cost, side, t) => {
-            res[0] = cost as u64;
-            res[1] = side;
-            res[2] = t as u64;
+        Ok(found) => {
+            res[0] = u64::from(found.cost);
+            res[1] = found.side;
+            res[2] = found.other as u64;
             0
         }
-        Divided::Refused(why) => refusal(why),
+        Err(why) => refusal(why),
     }
 }
 
@@ -78,106 +75,89 @@ pub fn split(answer: Divided, res: &mut [u64; SPLIT_RESULTS]) -> u64
 fn put_groups(res: &mut [u64; READ_RESULTS], answer: Answer)
     ensures { res.new ≡ with_groups 63 answer.taxa answer.costs res.old }
 {
-    let mut i: usize = 0;
-    while i < MOST_GROUPS {
+    for i in 0..MOST_GROUPS {
         res[GROUPS_AT + i] = answer.taxa[i];
-        res[COSTS_AT + i] = answer.costs[i] as u64;
-        i += 1;
+        res[COSTS_AT + i] = u64::from(answer.costs[i]);
     }
 }
 
 fn put_value(res: &mut [u64; READ_RESULTS], answer: Answer)
-    ensures { res.new ≡ value_after Taken answer res.old }
+    ensures { res.new ≡ value_after (Ok answer) res.old }
 {
-    res[0] = answer.n as u64;
-    res[1] = answer.m as u64;
-    res[2] = answer.groups as u64;
-    res[3] = answer.flips as u64;
-    res[4] = answer.total as u64;
+    res[0] = u64::from(answer.n);
+    res[1] = u64::from(answer.m);
+    res[2] = u64::from(answer.groups);
+    res[3] = u64::from(answer.flips);
+    res[4] = u64::from(answer.total);
     put_groups(res, answer);
 }
 
 // What was read is put into `result`.
-pub fn read(reading: Reading, res: &mut [u64; READ_RESULTS]) -> u64
-    requires { ReadFits reading.verdict }
-    ensures { (result ≡ packed_read reading.verdict) × (res.new ≡ value_after reading.verdict reading.answer res.old) }
+pub fn read(reading: Result<Answer, Refusal>, res: &mut [u64; READ_RESULTS]) -> u64
+    requires { ReadFits reading }
+    ensures { (result ≡ packed_read reading) × (res.new ≡ value_after reading res.old) }
 {
-    let verdict = reading.verdict;
-    match verdict {
-        Verdict::Taken => {
-            let answer = reading.answer;
+    match reading {
+        Ok(answer) => {
             put_value(res, answer);
             0
         }
-        Verdict::Refused(why) => refusal(why),
+        Err(why) => refusal(why),
     }
 }
 
-pub fn write(answer: Written) -> u64
+pub fn write(answer: Result<usize, Refusal>) -> u64
     requires { WriteFits answer }
     ensures { result ≡ packed_write answer }
 {
     match answer {
-        Written::Length(size) => 0x1_0000_0000 * size as u64,
-        Written::Refused(why) => refusal(why),
+        Ok(size) => 0x1_0000_0000 * size as u64,
+        Err(why) => refusal(why),
     }
 }
 
-pub fn score(answer: Scored) -> u64
+pub fn score(answer: Result<Sums, Refusal>) -> u64
     requires { ScoreFits answer }
     ensures { result ≡ packed_score answer }
 {
     match answer {
-        Scored::Taken(raises, lowers) => lowers.0 as u64 + 0x8000_0000 * raises.0 as u64,
-        Scored::Refused(why) => refusal(why),
+        Ok(sums) => u64::from(sums.lowers.0) + 0x8000_0000 * u64::from(sums.raises.0),
+        Err(why) => refusal(why),
     }
-}
-
-// The place itself, or the last that can be told.
-fn near(place: usize) -> usize
-    ensures { result ≡ min place last_place }
-{
-    if place < LAST_PLACE {
-        return place;
-    }
-    LAST_PLACE
 }
 
 // A refusal in a text or a name list: no bound is set to these, as there is to a matrix or an answer.
 fn far_refusal(why: Refusal) -> u64
     ensures { result ≡ packed_refusal (told why) }
 {
-    refusal(Refusal {
-        number: why.number,
-        place: near(why.place),
-    })
+    refusal(why.reason.at(why.place.min(LAST_PLACE)))
 }
 
-pub fn check_names(answer: Listed) -> u64
+pub fn check_names(answer: Result<usize, Refusal>) -> u64
     ensures { result ≡ packed_names answer }
 {
     match answer {
-        Listed::Taken(count) => count as u64,
-        Listed::Refused(why) => far_refusal(why),
+        Ok(count) => count as u64,
+        Err(why) => far_refusal(why),
     }
 }
 
-pub fn read_newick(answer: Derived) -> u64
+pub fn read_newick(answer: Result<Derived, Refusal>) -> u64
     requires { TreesFit answer }
     ensures { result ≡ packed_trees answer }
 {
     match answer {
-        Derived::Taken(matrix, names) => names as u64 + 0x1_0000_0000 * matrix as u64,
-        Derived::Refused(why) => far_refusal(why),
+        Ok(sizes) => sizes.names as u64 + 0x1_0000_0000 * sizes.matrix as u64,
+        Err(why) => far_refusal(why),
     }
 }
 
-pub fn write_newick(answer: Spelled) -> u64
+pub fn write_newick(answer: Result<usize, Refusal>) -> u64
     requires { TextFits answer }
     ensures { result ≡ packed_text answer }
 {
     match answer {
-        Spelled::Length(size) => 0x1_0000_0000 * size as u64,
-        Spelled::Refused(why) => far_refusal(why),
+        Ok(size) => 0x1_0000_0000 * size as u64,
+        Err(why) => far_refusal(why),
     }
 }

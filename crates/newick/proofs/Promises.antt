@@ -189,5 +189,5 @@ reading_trees_succeeds {text} {matrix} {names} {r} x = (λ e. go (comes text (le
 pub refused_reading_trees : {text matrix names : List ℕ} {r : Result Derived Refusal} {matrix' names' : List ℕ} → Reads text matrix names r matrix' names'
     → (returned r).number ≢ 0 → ((returned r).matrix ≡ 0) × ((returned r).names ≡ 0) × (matrix' ≡ matrix) × (names' ≡ names)
 unfolding output_after
-refused_reading_trees {r = Ok (record { matrix = a; names = b })} x some = absurd (some refl)
+refused_reading_trees {r = Ok it} x some = absurd (some refl)
 refused_reading_trees {r = Err why} x some = (refl, refl, x.matrix_output, x.names_output)

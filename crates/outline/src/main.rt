@@ -7,7 +7,6 @@ ghost use Rattle.std.specs.Prelude.{◌≡◌, ◌+◌, ◌*◌, ◌≤◌, leng
 
 use record::number::{u16_at, u32_at, u64_at};
 use std::io;
-use tree::Built;
 
 // Room for the largest matrix file and one byte more: what lies past that changes nothing.
 fn file_room() -> [u8; 5713]
@@ -91,9 +90,8 @@ fn main(rt: HostRuntime) -> io::Result<()> {
     let size = input::read_full(&mut rt.stdin(), &mut file)?;
     let mut workspace = workspace_room();
     let mut answer = answer_room();
-    let built = tree::build(&file[..size], &mut workspace, &mut answer);
-    match built {
-        Built::Taken(_, _) => say_answer(&rt, &answer),
-        Built::Refused(why) => println!(rt; "refused {} at {}", why.number, why.place),
+    match tree::build(&file[..size], &mut workspace, &mut answer) {
+        Ok(_) => say_answer(&rt, &answer),
+        Err(why) => println!(rt; "{why}"),
     }
 }

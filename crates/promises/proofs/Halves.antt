@@ -54,7 +54,7 @@ use Rattle.tree.specs.declared.Built.{Built}
 -- ---- what the tree of a file comes to
 
 data Grows (file : List ℕ) (space room : ℕ) : Result Built Refusal → Type 0 where
-  refuses : (why : Refusal) → 0 < (refusal_number why.reason) → Grows file space room (Err why)
+  refuses : (why : Refusal) → 0 < refusal_number why.reason → Grows file space room (Err why)
   gives : (n m : ℕ) → Ok (shape n m) ≡ checked file → one_entries (matrix_in file) ≤ space → Grows file space room (written (tree_for (matrix_in file)))
 
 grows : (file : List ℕ) (space room : ℕ) → Grows file space room (tree_given file space room)
@@ -87,7 +87,7 @@ pub refused_tree : {file : List ℕ} {ws : List ℤ} {out : List ℕ} {r : Resul
     → (returned r).number ≢ 0
     → ((returned r).size ≡ 0) × ((returned r).sum ≡ 0) × (ws' ≡ ws) × (out' ≡ out)
 unfolding tree_output workspace_after
-refused_tree {r = Ok (record { size = size; total = sum })} x some = absurd (some refl)
+refused_tree {r = Ok it} x some = absurd (some refl)
 refused_tree {r = Err why} x some = (refl, refl, x.workspace, x.output)
 
 -- After success the workspace has zeros, one for each 1 of the matrix.
@@ -191,7 +191,7 @@ tree_leaves {file} {n} {m} taken ws out l k =
 -- ---- what the flips of two files come to
 
 data Comes (file tree : List ℕ) (space room : ℕ) : Result Built Refusal → Type 0 where
-  refuses : (why : Refusal) → 0 < (refusal_number why.reason) → (refusal_number why.reason) ≢ 26 → Comes file tree space room (Err why)
+  refuses : (why : Refusal) → 0 < refusal_number why.reason → (refusal_number why.reason) ≢ 26 → Comes file tree space room (Err why)
   differs : Comparable file tree space room → equal tree (tree_file file) ≡ false → Comes file tree space room (Err (refused reason.OtherTree 0))
   whole : Comparable file tree space room → equal tree (tree_file file) ≡ true → Comes file tree space room (taken_of file)
 

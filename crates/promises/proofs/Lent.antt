@@ -58,28 +58,28 @@ module _ {file : List ℕ} {ws : List ℤ} where
   pub build_workspace : {out : List ℕ} {r : Result Built Refusal} {ws' : List ℤ} {out' : List ℕ} → build.Builds file ws out r ws' out' → (build.returned r).number ≡ 0 → OneForEach1 (matrix_in file) ws ws'
   unfolding build.workspace_after build.built build.answered
   build_workspace {r = Err why} x none = let (size, sum, e) = (build_succeeds x).0 none in absurd (let z : ◌≡◌ {A = ℕ} 0 1 = cc in omega arith)
-  build_workspace {out = out} {r = Ok (record { size = size; total = sum })} x none = rw x.workspace (one_for_each (matrix_in file) ws (enough (checked file) x.answers))
+  build_workspace {out = out} {r = Ok it} x none = rw x.workspace (one_for_each (matrix_in file) ws (enough (checked file) x.answers))
     where
-      tested : (a : Bool) (other : Result Built Refusal) → ltb (length ws) (one_entries (matrix_in file)) ≡ a → Ok (record { size = size; total = sum }) ≡ cond a (Err (refused reason.Workspace 0)) other → one_entries (matrix_in file) ≤ length ws
+      tested : (a : Bool) (other : Result Built Refusal) → ltb (length ws) (one_entries (matrix_in file)) ≡ a → Ok it ≡ cond a (Err (refused reason.Workspace 0)) other → one_entries (matrix_in file) ≤ length ws
       tested false other e w = omega (arith, ltb-false (length ws) (one_entries (matrix_in file)) e)
       tested true other e w = absurd (let z : ◌≡◌ {A = ℕ} 0 1 = cc in omega arith)
 
-      enough : (k : Result Shape Refusal) → Ok (record { size = size; total = sum }) ≡ build.answered k file (length ws) (length out) → one_entries (matrix_in file) ≤ length ws
+      enough : (k : Result Shape Refusal) → Ok it ≡ build.answered k file (length ws) (length out) → one_entries (matrix_in file) ≤ length ws
       enough (Err why) w = absurd (let z : ◌≡◌ {A = ℕ} 0 1 = cc in omega arith)
-      enough (Ok it) w = tested (ltb (length ws) (one_entries (matrix_in file))) (cond (ltb (length out) (build.room_for it.n it.m)) (Err (refused reason.Room 0)) (build.taken_of file)) refl w
+      enough (Ok k) w = tested (ltb (length ws) (one_entries (matrix_in file))) (cond (ltb (length out) (build.room_for k.n k.m)) (Err (refused reason.Room 0)) (build.taken_of file)) refl w
 
   pub split_workspace : {S : ℕ} {r : Result Split Refusal} {ws' : List ℤ} → split.Splits file S ws r ws' → (split.returned r).number ≡ 0 → OneForEach1 (matrix_in file) ws ws'
   unfolding split.workspace_after split.divided split.answered
   split_workspace {r = Err why} x none = let (cost, A, t, e) = (split_succeeds x).0 none in absurd (let z : ◌≡◌ {A = ℕ} 0 1 = cc in omega arith)
-  split_workspace {S} {r = Ok (record { cost = cost; side = A; other = t })} x none = rw x.workspace (one_for_each (matrix_in file) ws (enough (checked file) x.answers))
+  split_workspace {S} {r = Ok it} x none = rw x.workspace (one_for_each (matrix_in file) ws (enough (checked file) x.answers))
     where
       tested : (a b : Bool) (other : Result Split Refusal) → ltb (length ws) (one_entries (matrix_in file)) ≡ b
-          → Ok (record { cost = cost; side = A; other = t }) ≡ cond a (Err (refused reason.GroupToSplit 0)) (cond b (Err (refused reason.Workspace 0)) other) → one_entries (matrix_in file) ≤ length ws
+          → Ok it ≡ cond a (Err (refused reason.GroupToSplit 0)) (cond b (Err (refused reason.Workspace 0)) other) → one_entries (matrix_in file) ≤ length ws
       tested true b other e w = absurd (let z : ◌≡◌ {A = ℕ} 0 1 = cc in omega arith)
       tested false true other e w = absurd (let z : ◌≡◌ {A = ℕ} 0 1 = cc in omega arith)
       tested false false other e w = omega (arith, ltb-false (length ws) (one_entries (matrix_in file)) e)
 
-      enough : (k : Result Shape Refusal) → Ok (record { cost = cost; side = A; other = t }) ≡ split.answered k file S (length ws) → one_entries (matrix_in file) ≤ length ws
+      enough : (k : Result Shape Refusal) → Ok it ≡ split.answered k file S (length ws) → one_entries (matrix_in file) ≤ length ws
       enough (Err why) w = absurd (let z : ◌≡◌ {A = ℕ} 0 1 = cc in omega arith)
       enough (Ok it) w = tested (split.no_group it.n S) (ltb (length ws) (one_entries (matrix_in file))) (split.split_of (matrix_in file) S) refl w
 

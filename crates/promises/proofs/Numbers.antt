@@ -37,7 +37,7 @@ use Rattle.score.specs.declared.Sums.{Sums}
 -- Of the build's answers.
 abbrev BuildNumbered : Result Built Refusal → Type 0
 BuildNumbered (Ok it) = Unit {0}
-BuildNumbered (Err why) = 0 < (refusal_number why.reason)
+BuildNumbered (Err why) = 0 < refusal_number why.reason
 
 build_numbered : (file : List ℕ) (space room : ℕ) → BuildNumbered (build.built file space room)
 unfolding build.built build.answered
@@ -51,7 +51,7 @@ build_numbered file space room = go (check.checked file) refl
 -- Of the split's.
 abbrev SplitNumbered : Result Split Refusal → Type 0
 SplitNumbered (Ok it) = Unit {0}
-SplitNumbered (Err why) = 0 < (refusal_number why.reason)
+SplitNumbered (Err why) = 0 < refusal_number why.reason
 
 split_numbered : (file : List ℕ) (S room : ℕ) → SplitNumbered (split.divided file S room)
 unfolding split.divided split.answered split.split_of
@@ -64,7 +64,7 @@ split_numbered file S room = go (check.checked file) refl
 -- Of the score's.
 abbrev ScoreNumbered : Result Sums Refusal → Type 0
 ScoreNumbered (Ok it) = Unit {0}
-ScoreNumbered (Err why) = 0 < (refusal_number why.reason)
+ScoreNumbered (Err why) = 0 < refusal_number why.reason
 
 score_numbered : (matrix answer : List ℕ) → ScoreNumbered (score.scored matrix answer)
 unfolding score.scored score.agreed
@@ -81,28 +81,28 @@ score_numbered matrix answer = go (check.checked matrix) refl
 -- ---- 0 is returned exactly on success
 
 pub check_succeeds : {file : List ℕ} {r : Result Shape Refusal} → check.Checks file r → (check.returned r).number ≡ 0 ↔ ((n : ℕ) × (m : ℕ) × (r ≡ Ok (shape n m)))
-check_succeeds {r = Ok (shape n m)} x = (λ z. (n, m, refl), λ t. refl)
+check_succeeds {r = Ok it} x = (λ z. (it.n, it.m, refl), λ t. refl)
 check_succeeds {file} {r = Err why} x = (λ z. absurd (omega (arith, z, (refusal_small file x.answers).1)), λ (n, m, t). absurd (let z : ◌≡◌ {A = ℕ} 0 1 = cc in omega arith))
 
 pub build_succeeds : {file out : List ℕ} {ws : List ℤ} {r : Result Built Refusal} {ws' : List ℤ} {out' : List ℕ} → build.Builds file ws out r ws' out'
     → (build.returned r).number ≡ 0 ↔ ((size : ℕ) × (sum : ℕ) × (r ≡ Ok (record { size = size; total = sum })))
-build_succeeds {r = Ok (record { size = size; total = sum })} x = (λ z. (size, sum, refl), λ t. refl)
+build_succeeds {r = Ok it} x = (λ z. (it.size, it.total, refl), λ t. refl)
 build_succeeds {file} {out} {ws} {r = Err why} x =
-    let some : 0 < (refusal_number why.reason) = rw (← x.answers) at (build_numbered file (length ws) (length out)) in
+    let some : 0 < refusal_number why.reason = rw (← x.answers) at (build_numbered file (length ws) (length out)) in
     (λ z. absurd (omega (arith, z, some)), λ (size, sum, t). absurd (let z : ◌≡◌ {A = ℕ} 0 1 = cc in omega arith))
 
 pub split_succeeds : {file : List ℕ} {S : ℕ} {ws : List ℤ} {r : Result Split Refusal} {ws' : List ℤ} → split.Splits file S ws r ws'
     → (split.returned r).number ≡ 0 ↔ ((cost : ℕ) × (A : ℕ) × (t : ℕ) × (r ≡ Ok (record { cost = cost; side = A; other = t })))
-split_succeeds {r = Ok (record { cost = cost; side = A; other = t })} x = (λ z. (cost, A, t, refl), λ q. refl)
+split_succeeds {r = Ok it} x = (λ z. (it.cost, it.side, it.other, refl), λ q. refl)
 split_succeeds {file} {S} {ws} {r = Err why} x =
-    let some : 0 < (refusal_number why.reason) = rw (← x.answers) at (split_numbered file S (length ws)) in
+    let some : 0 < refusal_number why.reason = rw (← x.answers) at (split_numbered file S (length ws)) in
     (λ z. absurd (omega (arith, z, some)), λ (cost, A, t, q). absurd (let z : ◌≡◌ {A = ℕ} 0 1 = cc in omega arith))
 
 pub score_succeeds : {matrix answer : List ℕ} {r : Result Sums Refusal} → score.Scores matrix answer r
     → (score.returned r).number ≡ 0 ↔ ((raises : ℕ) × (lowers : ℕ) × (r ≡ Ok (record { raises = record { 0 = raises }; lowers = record { 0 = lowers } })))
-score_succeeds {r = Ok (record { raises = up; lowers = down })} x = (λ z. (up.0, down.0, refl), λ t. refl)
+score_succeeds {r = Ok it} x = (λ z. (it.raises.0, it.lowers.0, refl), λ t. refl)
 score_succeeds {matrix} {answer} {r = Err why} x =
-    let some : 0 < (refusal_number why.reason) = rw (← x.answers) at (score_numbered matrix answer) in
+    let some : 0 < refusal_number why.reason = rw (← x.answers) at (score_numbered matrix answer) in
     (λ z. absurd (omega (arith, z, some)), λ (up, down, t). absurd (let z : ◌≡◌ {A = ℕ} 0 1 = cc in omega arith))
 
 -- Reading, into three lists or into a list of entries.
@@ -127,6 +127,6 @@ writing_succeeds {r = Ok size} x = (λ z. (size, refl), λ t. refl)
 writing_succeeds {c} {entries} {out} {r = Err why} x =
     (λ z. absurd (omega (arith, z, go (writing.write_tests c entries (length out)) (write_numbered c entries (length out)) x.answers)), λ (size, t). absurd (let z : ◌≡◌ {A = ℕ} 0 1 = cc in omega arith))
   where
-    go : (p : Passed) → Numbered p → Err why ≡ writing.ended (length_of c) p → 0 < (refusal_number why.reason)
+    go : (p : Passed) → Numbered p → Err why ≡ writing.ended (length_of c) p → 0 < refusal_number why.reason
     go (Ok here) a e = absurd (let z : ◌≡◌ {A = ℕ} 0 1 = cc in omega arith)
     go (Err other) a e = let same : (refusal_number why.reason) ≡ other.number = cc in omega (arith, a.above refl)

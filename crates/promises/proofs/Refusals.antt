@@ -24,23 +24,23 @@ use Rattle.tree.specs.declared.Built.{Built}
 use Rattle.score.specs.declared.Sums.{Sums}
 
 pub refused_check : {file : List ℕ} {r : Result Shape Refusal} → check.Checks file r → (check.returned r).number ≢ 0 → ((check.returned r).n ≡ 0) × ((check.returned r).m ≡ 0)
-refused_check {r = Ok (shape n m)} x some = absurd (some refl)
+refused_check {r = Ok it} x some = absurd (some refl)
 refused_check {r = Err why} x some = (refl, refl)
 
 pub refused_build : {file out : List ℕ} {ws : List ℤ} {r : Result Built Refusal} {ws' : List ℤ} {out' : List ℕ} → build.Builds file ws out r ws' out' → (build.returned r).number ≢ 0
     → ((build.returned r).size ≡ 0) × ((build.returned r).sum ≡ 0) × (ws' ≡ ws) × (out' ≡ out)
 unfolding build.output_after build.workspace_after
-refused_build {r = Ok (record { size = size; total = sum })} x some = absurd (some refl)
+refused_build {r = Ok it} x some = absurd (some refl)
 refused_build {r = Err why} x some = (refl, refl, x.workspace, x.output)
 
 pub refused_split : {file : List ℕ} {S : ℕ} {ws : List ℤ} {r : Result Split Refusal} {ws' : List ℤ} → split.Splits file S ws r ws' → (split.returned r).number ≢ 0
     → ((split.returned r).cost ≡ 0) × ((split.returned r).side ≡ 0) × ((split.returned r).t ≡ 0) × (ws' ≡ ws)
 unfolding split.workspace_after
-refused_split {r = Ok (record { cost = cost; side = A; other = t })} x some = absurd (some refl)
+refused_split {r = Ok it} x some = absurd (some refl)
 refused_split {r = Err why} x some = (refl, refl, refl, x.workspace)
 
 pub refused_score : {matrix answer : List ℕ} {r : Result Sums Refusal} → score.Scores matrix answer r → (score.returned r).number ≢ 0 → ((score.returned r).raises ≡ 0) × ((score.returned r).lowers ≡ 0)
-refused_score {r = Ok (record { raises = up; lowers = down })} x some = absurd (some refl)
+refused_score {r = Ok it} x some = absurd (some refl)
 refused_score {r = Err why} x some = (refl, refl)
 
 -- Reading, into three lists or into a list of entries: the value is the empty one, 0 in each of its numbers and places.

@@ -5,10 +5,11 @@ ghost use Rattle.record.specs.Bytes.{File};
 ghost use Rattle.flipcut.specs.Packed.{ReadsPacked, WritesPacked};
 ghost use Rattle.promises.specs.Held.{InWidths};
 
-use answer::{Answer, Reading, Written};
+use answer::Answer;
 use entries::Flip;
 use flipcut::answers::{flipcut_read, flipcut_write};
-use matrix::Checked;
+use matrix::Shape;
+use record::refusal::Refusal;
 
 // Read an answer, as C calls it: `entries::read_answer`, and what it answers packed.
 pub fn read_from_c(file: &[u8], list: &mut [Flip], res: &mut [u64; 131]) -> u64
@@ -29,7 +30,7 @@ pub fn read_lists(
     columns: &mut [u64],
     raised: &mut [u64],
     lowered: &mut [u64],
-) -> Reading
+) -> Result<Answer, Refusal>
     ensures { Reads file.now columns.old raised.old lowered.old result
         columns.new raised.new lowered.new }
 {
@@ -42,14 +43,14 @@ pub fn write_lists(
     raised: &[u64],
     lowered: &[u64],
     out: &mut [u8],
-) -> Written
+) -> Result<usize, Refusal>
     ensures { WritesLists answer columns.now raised.now lowered.now out.old result out.new }
 {
     answer::write(answer, columns, raised, lowered, out)
 }
 
 // What the theorems assume of a file holds of each that there is in code: it is made of bytes. (The prover tells so of a slice that is used.)
-pub fn any_file(file: &[u8]) -> Checked
+pub fn any_file(file: &[u8]) -> Result<Shape, Refusal>
     ensures { File file.now }
 {
     matrix::check(file)

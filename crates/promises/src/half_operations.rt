@@ -4,17 +4,18 @@ ghost use Rattle.tree.specs.Flips.{GivesFlips};
 ghost use Rattle.flipcut.specs.Packed.{GivesTreePacked, GivesFlipsPacked};
 
 use flipcut::matrices::{flipcut_flips, flipcut_tree};
+use record::refusal::Refusal;
 use tree::Built;
 
 // Tree.
-pub fn tree(file: &[u8], workspace: &mut [i32], out: &mut [u8]) -> Built
+pub fn tree(file: &[u8], workspace: &mut [i32], out: &mut [u8]) -> Result<Built, Refusal>
     ensures { GivesTree file.now workspace.old out.old result workspace.new out.new }
 {
     tree::tree(file, workspace, out)
 }
 
 // Flips.
-pub fn flips(file: &[u8], tree: &[u8], workspace: &mut [i32], out: &mut [u8]) -> Built
+pub fn flips(file: &[u8], tree: &[u8], workspace: &mut [i32], out: &mut [u8]) -> Result<Built, Refusal>
     ensures { GivesFlips file.now tree.now workspace.old out.old result workspace.new out.new }
 {
     tree::flips(file, tree, workspace, out)

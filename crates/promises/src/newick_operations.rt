@@ -6,26 +6,25 @@ ghost use Rattle.spelling.specs.Write.{Spells};
 ghost use Rattle.flipcut.specs.Packed.{packed_names, ReadsNewickPacked, WritesNewickPacked};
 
 use flipcut::trees::{flipcut_check_names, flipcut_read_newick, flipcut_write_newick};
-use names::Listed;
 use newick::Derived;
-use spelling::Spelled;
+use record::refusal::Refusal;
 
 // Check a name list.
-pub fn check_names(file: &[u8]) -> Listed
+pub fn check_names(file: &[u8]) -> Result<usize, Refusal>
     ensures { Checks file.now result }
 {
     names::check(file)
 }
 
 // Read source trees.
-pub fn read_newick(text: &[u8], matrix: &mut [u8], names: &mut [u8]) -> Derived
+pub fn read_newick(text: &[u8], matrix: &mut [u8], names: &mut [u8]) -> Result<Derived, Refusal>
     ensures { Reads text.now matrix.old names.old result matrix.new names.new }
 {
     newick::read(text, matrix, names)
 }
 
 // Write as Newick.
-pub fn write_newick(answer: &[u8], names: &[u8], out: &mut [u8]) -> Spelled
+pub fn write_newick(answer: &[u8], names: &[u8], out: &mut [u8]) -> Result<usize, Refusal>
     ensures { Spells answer.now names.now out.old result out.new }
 {
     spelling::write(answer, names, out)

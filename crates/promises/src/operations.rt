@@ -13,35 +13,35 @@ ghost use Rattle.flipcut.specs.Packed.{packed, packed_score, BuildsPacked, Split
 ghost use Rattle.promises.specs.Held.{FlowStands};
 
 use flipcut::matrices::{flipcut_build, flipcut_check, flipcut_score, flipcut_split};
-use matrix::Checked;
-use score::Scored;
+use matrix::Shape;
+use record::refusal::Refusal;
+use score::Sums;
 use search::Split;
-use split::Divided;
 use tree::Built;
 
 // Check a matrix.
-pub fn check(file: &[u8]) -> Checked
+pub fn check(file: &[u8]) -> Result<Shape, Refusal>
     ensures { Checks file.now result }
 {
     matrix::check(file)
 }
 
 // Build.
-pub fn build(file: &[u8], workspace: &mut [i32], out: &mut [u8]) -> Built
+pub fn build(file: &[u8], workspace: &mut [i32], out: &mut [u8]) -> Result<Built, Refusal>
     ensures { Builds file.now workspace.old out.old result workspace.new out.new }
 {
     tree::build(file, workspace, out)
 }
 
 // Split a group.
-pub fn split(file: &[u8], group: u64, workspace: &mut [i32]) -> Divided
+pub fn split(file: &[u8], group: u64, workspace: &mut [i32]) -> Result<Split, Refusal>
     ensures { Splits file.now group workspace.old result workspace.new }
 {
     split::split(file, group, workspace)
 }
 
 // Score.
-pub fn score(matrix: &[u8], answer: &[u8]) -> Scored
+pub fn score(matrix: &[u8], answer: &[u8]) -> Result<Sums, Refusal>
     ensures { Scores matrix.now answer.now result }
 {
     score::score(matrix, answer)

@@ -88,7 +88,7 @@ module _ {file : List ℕ} {S n m room : ℕ} (f : File file) (s : Splittable fi
     }
 
   -- The method's answer for multiplicities and columns.
-  abbrev taken_of : (ℕ → ℕ) → ℕ → (ℕ → Column) → Answer
+  abbrev taken_of : (ℕ → ℕ) → ℕ → (ℕ → Column) → Result Split Refusal
   taken_of μ k cols = Ok (record { cost = split_cost 64 μ k cols S; side = side 64 μ k cols S; other = parted 64 S (side 64 μ k cols S) })
 
   pub found : {μ : ℕ → ℕ} {cols : ℕ → Column} {cost t A : ℕ} → IsSplit μ m cols S cost A t → μ ≡ multiplicity (matrix_in file).multiplicities
@@ -107,7 +107,7 @@ module _ {file : List ℕ} {S n m room : ℕ} (f : File file) (s : Splittable fi
 pub still_cleared : {j k : ℕ} (ws : List ℤ) {ws' ws'' : List ℤ} → j ≤ k → k ≤ length ws → ws' ≡ cleared k ws → ws'' ≡ cleared j ws' → ws'' ≡ cleared k ws
 still_cleared {j} {k} ws l long first e = e ∙ ap (cleared j) first ∙ (clear_less l (cleared_clear k ws long)).is
 
-pub cleared_after : (file : List ℕ) (S : ℕ) (ws : List ℤ) {k : ℕ} {r : Answer} → k ≡ one_entries (matrix_in file) → r ≡ split_of (matrix_in file) S
+pub cleared_after : (file : List ℕ) (S : ℕ) (ws : List ℤ) {k : ℕ} {r : Result Split Refusal} → k ≡ one_entries (matrix_in file) → r ≡ split_of (matrix_in file) S
     → cleared k ws ≡ workspace_after file r ws
 unfolding workspace_after split_of
 cleared_after file S ws many e = rw e (ap (λ (k : ℕ). cleared k ws) many)
@@ -123,6 +123,6 @@ module _ (file : List ℕ) (S room : ℕ) where
   unfolding answered
   file_refused why = refl
 
-  pub outcome : {k : Result Shape Refusal} {r : Answer} → k ≡ checked file → r ≡ answered k file S room → (r ≡ divided file S room) × (returned r ≡ split_numbers file S room)
+  pub outcome : {k : Result Shape Refusal} {r : Result Split Refusal} → k ≡ checked file → r ≡ answered k file S room → (r ≡ divided file S room) × (returned r ≡ split_numbers file S room)
   unfolding divided
   outcome e a = let whole = a ∙ ap (λ (k : Result Shape Refusal). answered k file S room) e in (whole, ap returned whole)

@@ -8,23 +8,16 @@ pub mod group;
 mod parts;
 
 ghost use Rattle.std.specs.Prelude.{◌≡◌, length};
-ghost use Rattle.matrix.specs.Check.{checked};
-ghost use Rattle.matrix.specs.declared.Checked.TheVariants as checks;
+ghost use Rattle.matrix.specs.Check.{shape, checked};
 ghost use Rattle.method.specs.Tree.{one_entries};
 ghost use Rattle.search.specs.Workspace.{cleared};
 ghost use Rattle.split.specs.inner.Handing.{Parallel, Splittable};
 ghost use Rattle.split.specs.Columns.{matrix_in};
 ghost use Rattle.split.specs.Operation.{split_of, answered, workspace_after, Splits};
 
-use matrix::Checked;
-use record::Refusal;
-
-// What the split answers: the division's cost, its side A and the taxon t, or the refusal.
-#[derive(Clone, Copy)]
-pub enum Divided {
-    Taken(u32, u64, u32),
-    Refused(Refusal),
-}
+use matrix::Shape;
+use record::refusal::{Reason, Refusal};
+use search::Split;
 
 // The split of a group that nothing refuses; the three slices are room for the file's columns. The numbers that document 02's C-13 lends are cleared first,
 // and the search of the group uses no others.
@@ -38,12 +31,12 @@ fn split_loaded(
     m: usize,
     needed: usize,
     workspace: &mut [i32],
-) -> Divided
+) -> Split
     requires { Splittable file.now group n m (length workspace.old)
         × Parallel weights.old ones.old zeros.old
         × (length weights.old ≡ m)
         × (needed ≡ one_entries (matrix_in file.now)) }
-    ensures { (result ≡ split_of (matrix_in file.now) group) × (workspace.new ≡ cleared needed workspace.old) }
+    ensures { (Ok result ≡ split_of (matrix_in file.now) group) × (workspace.new ≡ cleared needed workspace.old) }
 {
     columns::load(file, weights, ones, zeros);
     let planes = matrix::planes_in(file);
@@ -53,7 +46,7 @@ fn split_loaded(
     let mut offsets = [0u16; 257];
     let mut used = [0u32; 256];
     let mut tree = [0u32; 256];
-    let found = group::divide(
+    group::divide(
         weights,
         &planes,
         ones,
@@ -67,39 +60,35 @@ fn split_loaded(
         &mut offsets,
         &mut used,
         &mut tree,
-    );
-    Divided::Taken(found.cost, found.side, found.other as u32)
+    )
 }
 
 // A matrix that is taken: the refusals of the group and of the workspace, and else the division.
-fn split_matrix(file: &[u8], group: u64, n: usize, m: usize, workspace: &mut [i32]) -> Divided
-    requires { checks.Taken n m ≡ checked file.now }
-    ensures { (result ≡ answered (checks.Taken n m) file.now group (length workspace.old))
+fn split_matrix(
+    file: &[u8],
+    group: u64,
+    n: usize,
+    m: usize,
+    workspace: &mut [i32],
+) -> Result<Split, Refusal>
+    requires { Ok (shape n m) ≡ checked file.now }
+    ensures { (result ≡ answered (Ok (shape n m)) file.now group (length workspace.old))
         × (workspace.new ≡ workspace_after file.now result workspace.old) }
 {
     if taxa::size(group) < 2 {
-        return Divided::Refused(Refusal {
-            number: 11,
-            place: 0,
-        });
+        return Err(Reason::GroupToSplit.at(0));
     }
     if !taxa::subset(group, taxa::all(n as u32)) {
-        return Divided::Refused(Refusal {
-            number: 11,
-            place: 0,
-        });
+        return Err(Reason::GroupToSplit.at(0));
     }
     let needed = columns::one_entries(file, m);
     if workspace.len() < needed {
-        return Divided::Refused(Refusal {
-            number: 9,
-            place: 0,
-        });
+        return Err(Reason::Workspace.at(0));
     }
     let mut weights = [0u16; 256];
     let mut ones = [0u64; 256];
     let mut zeros = [0u64; 256];
-    split_loaded(
+    Ok(split_loaded(
         file,
         &mut weights[..m],
         &mut ones[..m],
@@ -109,16 +98,13 @@ fn split_matrix(file: &[u8], group: u64, n: usize, m: usize, workspace: &mut [i3
         m,
         needed,
         workspace,
-    )
+    ))
 }
 
-// The operation "split".
-pub fn split(file: &[u8], group: u64, workspace: &mut [i32]) -> Divided
+// The operation "split": the division's cost, its side A and the taxon t.
+pub fn split(file: &[u8], group: u64, workspace: &mut [i32]) -> Result<Split, Refusal>
     ensures { Splits file.now group workspace.old result workspace.new }
 {
-    let answer = matrix::check(file);
-    match answer {
-        Checked::Taken(n, m) => split_matrix(file, group, n as usize, m as usize, workspace),
-        Checked::Refused(why) => Divided::Refused(why),
-    }
+    let Shape { n, m } = matrix::check(file)?;
+    split_matrix(file, group, n as usize, m as usize, workspace)
 }

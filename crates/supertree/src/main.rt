@@ -6,11 +6,8 @@
 
 ghost use Rattle.std.specs.Prelude.{◌≡◌, ◌+◌, ◌≤◌, length};
 
-use newick::Derived;
-use record::Refusal;
-use spelling::Spelled;
+use record::refusal::{Reason, Refusal};
 use std::io;
-use tree::Built;
 
 // The longest text that is taken: 1 MiB.
 const LONGEST: usize = 1048576;
@@ -88,20 +85,15 @@ fn spot_behind(start: &[u8]) -> Spot
     requires { length start.now ≤ 1048576 }
 {
     let mut spot = Spot { line: 1, column: 1 };
-    for i in 0..start.len() {
-        spot = spot.behind(start[i]);
+    for &byte in start {
+        spot = spot.behind(byte);
     }
     spot
 }
 
-fn tell_refusal(rt: &impl Eprint, why: Refusal) -> io::Result<()> {
-    eprint!(rt; "refused {} at {}", why.number, why.place)
-}
-
 // A refusal of what the program itself made: none comes, since each room is for the most there can be.
 fn tell_fault(rt: &impl Eprint, why: Refusal) -> io::Result<()> {
-    tell_refusal(rt, why)?;
-    rt.eprint("\n")
+    eprintln!(rt; "{why}")
 }
 
 // 16 stands at a byte or at the text's end.
@@ -123,14 +115,14 @@ fn tell_too_many(rt: &impl Eprint, rest: &[u8]) -> io::Result<()> {
     rt.eprint("there are more than 64 names")
 }
 
-// Why a text is refused at a place, from which on `rest` stands. What is left is 10, which never comes.
-fn tell_words(rt: &impl Eprint, number: u8, rest: &[u8]) -> io::Result<()> {
-    match number {
-        16 => tell_misfit(rt, rest),
-        17 => rt.eprint("a name is longer than 32 characters"),
-        18 => rt.eprint("a name stands twice in one tree"),
-        19 => tell_too_many(rt, rest),
-        20 => rt.eprint("more than 64 brackets are open"),
+// Why a text is refused at a place, from which on `rest` stands. What is left is the room, which never lacks.
+fn tell_words(rt: &impl Eprint, reason: Reason, rest: &[u8]) -> io::Result<()> {
+    match reason {
+        Reason::Misfit => tell_misfit(rt, rest),
+        Reason::LongName => rt.eprint("a name is longer than 32 characters"),
+        Reason::Repeated => rt.eprint("a name stands twice in one tree"),
+        Reason::TooMany => tell_too_many(rt, rest),
+        Reason::TooDeep => rt.eprint("more than 64 brackets are open"),
         _ => rt.eprint("there is no room"),
     }
 }
@@ -139,11 +131,11 @@ fn tell_words(rt: &impl Eprint, number: u8, rest: &[u8]) -> io::Result<()> {
 fn tell_why(rt: &impl Eprint, text: &[u8], why: Refusal) -> io::Result<()>
     requires { length text.now ≤ 1048576 }
 {
-    tell_refusal(rt, why)?;
+    eprint!(rt; "{why}")?;
     let place = why.place;
     if place <= text.len() {
         rt.eprint(": ")?;
-        tell_words(rt, why.number, &text[place..])?;
+        tell_words(rt, why.reason, &text[place..])?;
         let spot = spot_behind(&text[0..place]);
         eprint!(rt; ", line {}, column {}", spot.line, spot.column)?;
     }
@@ -165,20 +157,18 @@ fn say_tree(rt: &(impl Print + Eprint), tree: &[u8]) -> io::Result<()> {
 
 fn spell_tree(rt: &(impl Print + Eprint), answer: &[u8], names: &[u8]) -> io::Result<()> {
     let mut tree = [0; TREE_ROOM];
-    let spelled = spelling::write(answer, names, &mut tree);
-    match spelled {
-        Spelled::Length(size) => say_tree(rt, written(&tree, size)),
-        Spelled::Refused(why) => tell_fault(rt, why),
+    match spelling::write(answer, names, &mut tree) {
+        Ok(size) => say_tree(rt, written(&tree, size)),
+        Err(why) => tell_fault(rt, why),
     }
 }
 
 fn build_tree(rt: &(impl Print + Eprint), matrix: &[u8], names: &[u8]) -> io::Result<()> {
     let mut workspace = workspace_room();
     let mut answer = [0; ANSWER_ROOM];
-    let built = tree::build(matrix, &mut workspace, &mut answer);
-    match built {
-        Built::Taken(size, _) => spell_tree(rt, written(&answer, size), names),
-        Built::Refused(why) => tell_fault(rt, why),
+    match tree::build(matrix, &mut workspace, &mut answer) {
+        Ok(built) => spell_tree(rt, written(&answer, built.size), names),
+        Err(why) => tell_fault(rt, why),
     }
 }
 
@@ -187,14 +177,13 @@ fn read_trees(rt: &(impl Print + Eprint), text: &[u8]) -> io::Result<()>
 {
     let mut matrix = [0; MATRIX_ROOM];
     let mut names = [0; NAMES_ROOM];
-    let outcome = newick::read(text, &mut matrix, &mut names);
-    match outcome {
-        Derived::Taken(matrix_size, names_size) => build_tree(
+    match newick::read(text, &mut matrix, &mut names) {
+        Ok(sizes) => build_tree(
             rt,
-            written(&matrix, matrix_size),
-            written(&names, names_size),
+            written(&matrix, sizes.matrix),
+            written(&names, sizes.names),
         ),
-        Derived::Refused(why) => tell_why(rt, text, why),
+        Err(why) => tell_why(rt, text, why),
     }
 }
 

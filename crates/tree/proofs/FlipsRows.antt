@@ -21,10 +21,10 @@ use Rattle.answer.proofs.Places.{answer_by}
 use Rattle.method.specs.Tree.{one_entries}
 use Rattle.search.specs.Workspace.{cleared}
 use Rattle.split.specs.Columns.{matrix_in}
-use Rattle.tree.specs.inner.Grow.{lacking}
+use Rattle.tree.specs.inner.Grow.{lent_checked}
 use Rattle.tree.specs.Build.{content_for, room_for, taken_of, output_after, returned}
 use Rattle.tree.specs.Flips.{tree_file, if_firsts, agreed, flips_given, flips_answered, flips_workspace, GivesFlips}
-use Rattle.tree.proofs.Rows.{lacks, lack_few, holds, output_left}
+use Rattle.tree.proofs.Rows.{lacks, lacks_of, holds, output_left}
 use Rattle.std.specs.Prelude.{Result, Ok, Err}
 use Rattle.matrix.specs.Check.{shape}
 use Rattle.record.specs.declared.refusal.Reason.TheVariants as reason
@@ -61,12 +61,12 @@ module _ (file tree : List ℕ) (n m space room : ℕ) where
     disagree_row e = (rw e, output_left file _ out, flips_left file _ ws (λ d. omega arith))
 
     module _ (e : agree ≡ true) where
-      pub lack_row : {k : ℕ} → k ≡ lacking space ones room (room_for n m) → k ≢ 0 → Row (Err (refused k 0)) out ws
+      pub lack_row : {why : Refusal} → Err why ≡ lent_checked space ones room (room_for n m) → Row (Err why) out ws
       unfolding agreed
-      lack_row {k} is some = (
-        rw e (lacks file space room (room_for n m) (if_firsts file tree (taken_of file)) is some),
+      lack_row is = (
+        rw e (lacks file space room (room_for n m) (if_firsts file tree (taken_of file)) is),
         output_left file _ out,
-        flips_left file _ ws (λ d. omega (arith, lack_few space ones room (room_for n m))),
+        flips_left file _ ws (λ d. omega (arith, (lacks_of space ones room (room_for n m) is).few)),
       )
 
       module _ (long : ones ≤ space) (fits : room_for n m ≤ room) {ws' : List ℤ} (clear : ws' ≡ cleared ones ws) where

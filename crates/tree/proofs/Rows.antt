@@ -1,26 +1,27 @@
 -- The rows of the tables of the operations "build" and "tree": each return is one. What is lent is long enough, or the first of 9 and 10 says what is not
--- (`lacks`, `enough`).
+-- (`lacks_of`, `enough`).
 use mathlib.Core.Path.{◌≡◌, refl, ap, ◌∙◌}
+use mathlib.Core.Bool.{Bool, true, false, cond}
 use mathlib.Core.List.{List}
-use mathlib.Core.Logic.{◌≢◌}
 use Prim.Native.Nat.{ℕ, ◌≤◌, ◌<◌}
-use native.Mathlib.Decide.{dec_lt}
 use native.Mathlib.Omega.{arith}
+use lib.Dec.{ltb, lit≤}
 use lib.IntN.{ℤ}
-use borrow.Author.Tests.{lt-ltb, le-ltb}
+use borrow.Author.Tests.{lt-ltb, le-ltb, ltb-false}
 use Rattle.record.specs.Bytes.{over}
-use Rattle.record.specs.Refusals.{refused}
+use Rattle.record.specs.Refusals.{refused, refusal_number}
+use Rattle.record.specs.declared.refusal.Reason.TheVariants as reason
 use Rattle.record.specs.declared.refusal.Refusal.{Refusal}
 use Rattle.matrix.specs.Check.{checked}
 use Rattle.answer.specs.Content.{Content, file_of}
 use Rattle.method.specs.Tree.{one_entries}
 use Rattle.search.specs.Workspace.{cleared}
 use Rattle.split.specs.Columns.{matrix_in}
-use Rattle.tree.specs.inner.Grow.{lacking}
+use Rattle.tree.specs.inner.Grow.{lent_checked}
 use Rattle.tree.specs.Build.{tree_for, content_for, tree_room, room_for, written, taken_of, if_enough}
 use Rattle.tree.specs.Build.{answered, built, holding, output_after, workspace_after, returned, build_numbers}
 use Rattle.tree.specs.Tree.{tree_answered, tree_given, tree_output, tree_numbers}
-use Rattle.std.specs.Prelude.{Result, Ok, Err}
+use Rattle.std.specs.Prelude.{Result, Ok, Err, ⊤}
 use Rattle.matrix.specs.Check.{shape}
 use Rattle.matrix.specs.declared.Shape.{Shape}
 use Rattle.tree.specs.declared.Built.{Built}
@@ -28,46 +29,61 @@ use Rattle.tree.specs.declared.Built.{Built}
 -- ---- what is lent
 
 module _ (space needed room wanted : ℕ) where
-  pub short_space : space < needed → lacking space needed room wanted ≡ 9
-  unfolding lacking
+  pub short_space : space < needed → lent_checked space needed room wanted ≡ Err (refused reason.Workspace 0)
+  unfolding lent_checked
   short_space l = rw (lt-ltb _ _ l)
 
-  pub short_room : needed ≤ space → room < wanted → lacking space needed room wanted ≡ 10
-  unfolding lacking
+  pub short_room : needed ≤ space → room < wanted → lent_checked space needed room wanted ≡ Err (refused reason.Room 0)
+  unfolding lent_checked
   short_room l k = rw (le-ltb _ _ l, lt-ltb _ _ k)
 
-  pub none_short : needed ≤ space → wanted ≤ room → lacking space needed room wanted ≡ 0
-  unfolding lacking
+  pub none_short : needed ≤ space → wanted ≤ room → lent_checked space needed room wanted ≡ Ok tt
+  unfolding lent_checked
   none_short l k = rw (le-ltb _ _ l, le-ltb _ _ k)
 
-  pub lack_few : lacking space needed room wanted ≤ 10
-  lack_few =
-      elim (dec_lt space needed) [
-        | yes l ↦ omega (arith, short_space l)
-        | no nl ↦ elim (dec_lt room wanted) [ yes l ↦ omega (arith, short_room (omega arith) l) | no nk ↦ omega (arith, none_short (omega arith) (omega arith)) ]
-      ]
+  -- What is refused, and what it takes that nothing is.
+  pub record Lacks (why : Refusal) : Type 0 where
+    pub few : refusal_number why.reason ≤ 10
+    pub whatever : (r : Result Built Refusal) → Err why ≡ cond (ltb space needed) (Err (refused reason.Workspace 0)) (cond (ltb room wanted) (Err (refused reason.Room 0)) r)
 
-  pub enough : lacking space needed room wanted ≡ 0 → (needed ≤ space) × (wanted ≤ room)
-  enough e =
-      elim (dec_lt space needed) [
-        | yes l ↦ absurd (omega (arith, short_space l))
-        | no nl ↦ elim (dec_lt room wanted) [ yes l ↦ absurd (omega (arith, short_room (omega arith) l)) | no nk ↦ (omega arith, omega arith) ]
-      ]
+  why_in : Refusal → Result ⊤ Refusal → Refusal
+  why_in other (Ok t) = other
+  why_in other (Err why) = why
+
+  pub lacks_of : {why : Refusal} → Err why ≡ lent_checked space needed room wanted → Lacks why
+  unfolding lent_checked
+  lacks_of {why} = go (ltb space needed) (ltb room wanted) refl refl
+    where
+      go : (a b : Bool) → ltb space needed ≡ a → ltb room wanted ≡ b
+          → Err why ≡ cond a (Err (refused reason.Workspace 0)) (cond b (Err (refused reason.Room 0)) (Ok tt)) → Lacks why
+      go true b p q e = let same : why ≡ refused reason.Workspace 0 = ap (why_in why) e in rw same (record { few = lit≤ tt; whatever = λ r. rw p })
+      go false true p q e = let same : why ≡ refused reason.Room 0 = ap (why_in why) e in rw same (record { few = lit≤ tt; whatever = λ r. rw (p, q) })
+      go false false p q e = absurd (let z : ◌≡◌ {A = ℕ} 0 1 = cc in omega arith)
+
+  pub enough : Ok tt ≡ lent_checked space needed room wanted → (needed ≤ space) × (wanted ≤ room)
+  unfolding lent_checked
+  enough = go (ltb space needed) (ltb room wanted) refl refl
+    where
+      go : (a b : Bool) → ltb space needed ≡ a → ltb room wanted ≡ b
+          → Ok tt ≡ cond a (Err (refused reason.Workspace 0)) (cond b (Err (refused reason.Room 0)) (Ok tt)) → (needed ≤ space) × (wanted ≤ room)
+      go true b p q e = absurd (let z : ◌≡◌ {A = ℕ} 0 1 = cc in omega arith)
+      go false true p q e = absurd (let z : ◌≡◌ {A = ℕ} 0 1 = cc in omega arith)
+      go false false p q e = (omega (arith, ltb-false space needed p), omega (arith, ltb-false room wanted q))
+
+-- The same, where what is asked for was told in other words.
+module _ {space room needed wanted ones most : ℕ} (n : needed ≡ ones) (w : wanted ≡ most) where
+  pub lent_lacks : {why : Refusal} → Err why ≡ lent_checked space needed room wanted → Err why ≡ lent_checked space ones room most
+  lent_lacks e = e ∙ (λ i. lent_checked space (n i) room (w i))
+
+  pub lent_enough : Ok tt ≡ lent_checked space needed room wanted → (ones ≤ space) × (most ≤ room)
+  lent_enough e = enough space ones room most (e ∙ (λ i. lent_checked space (n i) room (w i)))
 
 module _ (file : List ℕ) (space room wanted : ℕ) (r : Result Built Refusal) where
   abbrev needed : ℕ
   needed = one_entries (matrix_in file)
 
-  pub lacks : {k : ℕ} → k ≡ lacking space needed room wanted → k ≢ 0 → Err (refused k 0) ≡ if_enough file space wanted room r
-  lacks {k} e some =
-      elim (dec_lt space needed) [
-        | yes l ↦ rw (lt-ltb _ _ l) (ap (λ (x : ℕ). Err (refused x 0)) (e ∙ short_space space needed room wanted l))
-        | no nl ↦ elim (dec_lt room wanted) [
-          | yes l ↦ rw (le-ltb space needed (omega arith), lt-ltb _ _ l)
-              (ap (λ (x : ℕ). Err (refused x 0)) (e ∙ short_room space needed room wanted (omega arith) l))
-          | no nk ↦ absurd (some (e ∙ none_short space needed room wanted (omega arith) (omega arith)))
-        ]
-      ]
+  pub lacks : {why : Refusal} → Err why ≡ lent_checked space needed room wanted → Err why ≡ if_enough file space wanted room r
+  lacks e = (lacks_of space needed room wanted e).whatever r
 
   pub has_enough : needed ≤ space → wanted ≤ room → r ≡ if_enough file space wanted room r
   has_enough l k = rw (le-ltb _ _ l, le-ltb _ _ k)
@@ -102,13 +118,13 @@ module _ (file : List ℕ) (n m space room : ℕ) where
   abbrev ones : ℕ
   ones = one_entries (matrix_in file)
 
-  pub build_lacks : {k : ℕ} → k ≡ lacking space ones room (room_for n m) → k ≢ 0 → Err (refused k 0) ≡ answered (Ok (shape n m)) file space room
+  pub build_lacks : {why : Refusal} → Err why ≡ lent_checked space ones room (room_for n m) → Err why ≡ answered (Ok (shape n m)) file space room
   unfolding answered
-  build_lacks e some = lacks file space room (room_for n m) (taken_of file) e some
+  build_lacks e = lacks file space room (room_for n m) (taken_of file) e
 
-  pub tree_lacks : {k : ℕ} → k ≡ lacking space ones room (tree_room n) → k ≢ 0 → Err (refused k 0) ≡ tree_answered (Ok (shape n m)) file space room
+  pub tree_lacks : {why : Refusal} → Err why ≡ lent_checked space ones room (tree_room n) → Err why ≡ tree_answered (Ok (shape n m)) file space room
   unfolding tree_answered
-  tree_lacks e some = lacks file space room (tree_room n) (written (tree_for (matrix_in file))) e some
+  tree_lacks e = lacks file space room (tree_room n) (written (tree_for (matrix_in file))) e
 
   module _ (out : List ℕ) (ws : List ℤ) {r : Result Built Refusal} {out' : List ℕ} {ws' : List ℤ} (long : ones ≤ space) (cleared-is : ws' ≡ cleared ones ws) where
     pub build_row : room_for n m ≤ room → (r ≡ taken_of file) × (out' ≡ over (file_of (content_for (matrix_in file))) 0 out)

@@ -3,7 +3,6 @@ ghost use Rattle.std.specs.Prelude.{◌≡◌, ◌≤◌, length};
 ghost use Rattle.record.specs.Bytes.{equal};
 ghost use Rattle.answer.specs.Content.{file_of, length_of};
 ghost use Rattle.answer.specs.Writing.{writing};
-ghost use Rattle.answer.specs.declared.Written.TheVariants as written;
 ghost use Rattle.method.specs.Tree.{column, flip_list};
 ghost use Rattle.split.specs.Columns.{matrix_in};
 ghost use Rattle.tree.specs.Build.{with_flips, tree_room};
@@ -11,22 +10,22 @@ ghost use Rattle.tree.specs.inner.Lists.{unweighed};
 ghost use Rattle.tree.specs.inner.Grow.{written_as, tree_of, Flipped, Answers};
 
 use super::{Built, order};
-use answer::{Answer, Written};
+use answer::Answer;
+use record::refusal::Refusal;
 
 // What the groups of 64 taxa take, without flips.
 const MOST_TREE: usize = 1028;
 
-fn as_built(written: Written, total: u32) -> Built
+// What was written, with its total.
+fn as_built(written: Result<usize, Refusal>, total: u32) -> Result<Built, Refusal>
     ensures { result ≡ written_as total written }
 {
-    match written {
-        Written::Length(size) => Built::Taken(size, total),
-        Written::Refused(why) => Built::Refused(why),
-    }
+    let size = written?;
+    Ok(Built { size, total })
 }
 
 // Groups and costs as an answer file without flips.
-pub fn write_tree(tree: Answer, out: &mut [u8]) -> Built
+pub fn write_tree(tree: Answer, out: &mut [u8]) -> Result<Built, Refusal>
     requires { tree.flips ≡ 0 }
     ensures { Answers (tree_of tree) 0 out.old result out.new }
 {
@@ -36,14 +35,13 @@ pub fn write_tree(tree: Answer, out: &mut [u8]) -> Built
 
 // Whether a file is, byte for byte, what is so written.
 pub fn is_tree(file: &[u8], tree: Answer) -> bool
-    requires { (tree.flips ≡ 0) × (writing (tree_of tree) 0 (tree_room 64) ≡ written.Length (length_of (tree_of tree))) × (length_of (tree_of tree) ≤ tree_room 64) }
+    requires { (tree.flips ≡ 0) × (writing (tree_of tree) 0 (tree_room 64) ≡ Ok (length_of (tree_of tree))) × (length_of (tree_of tree) ≤ tree_room 64) }
     ensures { result ≡ equal file.now (file_of (tree_of tree)) }
 {
     let mut own = [0u8; MOST_TREE];
-    let written = write_tree(tree, &mut own);
-    match written {
-        Built::Taken(size, _) => record::same(file, &own[..size]),
-        Built::Refused(_) => false,
+    match write_tree(tree, &mut own) {
+        Ok(built) => record::same(file, &own[..built.size]),
+        Err(_) => false,
     }
 }
 
@@ -54,7 +52,7 @@ pub fn write_whole(
     ones: &mut [u64; 256],
     zeros: &mut [u64; 256],
     out: &mut [u8],
-) -> Built
+) -> Result<Built, Refusal>
     requires { Flipped file.now ones.old zeros.old tree.m }
     ensures { Answers
         (with_flips (tree_of tree)

@@ -9,46 +9,37 @@ mod grow;
 mod order;
 
 ghost use Rattle.std.specs.Prelude.{◌≡◌, ◌&&◌, ◌≤◌, ◌<◌, eqb, length};
-ghost use Rattle.record.specs.Records.{refused};
-ghost use Rattle.matrix.specs.Check.{checked};
-ghost use Rattle.matrix.specs.declared.Checked.TheVariants as checks;
+ghost use Rattle.matrix.specs.Check.{shape, checked};
 ghost use Rattle.answer.specs.Content.{content_in};
-ghost use Rattle.tree.specs.inner.Grow.{lacking};
+ghost use Rattle.tree.specs.inner.Grow.{lent_checked};
 ghost use Rattle.tree.specs.Build.{tree_room, room_for, answered, output_after, workspace_after, Builds};
 ghost use Rattle.tree.specs.Tree.{tree_answered, tree_output, GivesTree};
 ghost use Rattle.tree.specs.Flips.{agreed, flips_workspace, GivesFlips};
 
 use answer::reader::pass_file;
-use matrix::Checked;
+use matrix::Shape;
 use record::number::u16_at;
-use record::{Passed, Refusal};
+use record::refusal::{Reason, Refusal};
 use split::columns;
 
-// What the build answers, and each of its steps: the length written and the total, or the refusal.
+// What the build answers, and each of its steps: the length written and the total.
 #[derive(Clone, Copy)]
-pub enum Built {
-    Taken(usize, u32),
-    Refused(Refusal),
+pub struct Built {
+    pub size: usize,
+    pub total: u32,
 }
 
-// A refusal of what is lent, or of what files come to together, stands at no place in them.
-fn refused(number: u8) -> Built
-    ensures { result ≡ Built.Refused (refused number 0) }
-{
-    Built::Refused(Refusal { number, place: 0 })
-}
-
-// What is lent and too short: 9 for the workspace, 10 for the output, 0 where both are long enough.
-fn lack(space: usize, needed: usize, room: usize, wanted: usize) -> u8
-    ensures { result ≡ lacking space needed room wanted }
+// What is lent and too short: the workspace, or else the output.
+fn check_lent(space: usize, needed: usize, room: usize, wanted: usize) -> Result<(), Refusal>
+    ensures { result ≡ lent_checked space needed room wanted }
 {
     if space < needed {
-        return 9;
+        return Err(Reason::Workspace.at(0));
     }
     if room < wanted {
-        return 10;
+        return Err(Reason::Room.at(0));
     }
-    0
+    Ok(())
 }
 
 // How many bytes the groups of n taxa take at most.
@@ -68,17 +59,14 @@ fn answer_room(n: u16, m: u16) -> usize
 }
 
 // A matrix that is taken, built: the refusals of the workspace and of the output, and else the tree and then its flips.
-fn build_taken(file: &[u8], n: u16, m: u16, workspace: &mut [i32], out: &mut [u8]) -> Built
-    requires { checks.Taken n m ≡ checked file.now }
-    ensures { (result ≡ answered (checks.Taken n m) file.now (length workspace.old) (length out.old))
+fn build_taken(file: &[u8], n: u16, m: u16, workspace: &mut [i32], out: &mut [u8]) -> Result<Built, Refusal>
+    requires { Ok (shape n m) ≡ checked file.now }
+    ensures { (result ≡ answered (Ok (shape n m)) file.now (length workspace.old) (length out.old))
         × (out.new ≡ output_after file.now result out.old)
         × (workspace.new ≡ workspace_after file.now result workspace.old) }
 {
     let needed = columns::one_entries(file, m as usize);
-    let lack = lack(workspace.len(), needed, out.len(), answer_room(n, m));
-    if lack != 0 {
-        return refused(lack);
-    }
+    check_lent(workspace.len(), needed, out.len(), answer_room(n, m))?;
     let mut ones = [0u64; 256];
     let mut zeros = [0u64; 256];
     let tree = groups::grow_tree(file, n, m, needed, workspace, &mut ones, &mut zeros);
@@ -86,28 +74,22 @@ fn build_taken(file: &[u8], n: u16, m: u16, workspace: &mut [i32], out: &mut [u8
 }
 
 // The operation "build".
-pub fn build(file: &[u8], workspace: &mut [i32], out: &mut [u8]) -> Built
+pub fn build(file: &[u8], workspace: &mut [i32], out: &mut [u8]) -> Result<Built, Refusal>
     ensures { Builds file.now workspace.old out.old result workspace.new out.new }
 {
-    let answer = matrix::check(file);
-    match answer {
-        Checked::Taken(n, m) => build_taken(file, n, m, workspace, out),
-        Checked::Refused(why) => Built::Refused(why),
-    }
+    let Shape { n, m } = matrix::check(file)?;
+    build_taken(file, n, m, workspace, out)
 }
 
 // A matrix that is taken: the refusals of the workspace and of the output, and else its tree.
-fn tree_taken(file: &[u8], n: u16, m: u16, workspace: &mut [i32], out: &mut [u8]) -> Built
-    requires { checks.Taken n m ≡ checked file.now }
-    ensures { (result ≡ tree_answered (checks.Taken n m) file.now (length workspace.old) (length out.old))
+fn tree_taken(file: &[u8], n: u16, m: u16, workspace: &mut [i32], out: &mut [u8]) -> Result<Built, Refusal>
+    requires { Ok (shape n m) ≡ checked file.now }
+    ensures { (result ≡ tree_answered (Ok (shape n m)) file.now (length workspace.old) (length out.old))
         × (out.new ≡ tree_output file.now result out.old)
         × (workspace.new ≡ workspace_after file.now result workspace.old) }
 {
     let needed = columns::one_entries(file, m as usize);
-    let lack = lack(workspace.len(), needed, out.len(), tree_room(n));
-    if lack != 0 {
-        return refused(lack);
-    }
+    check_lent(workspace.len(), needed, out.len(), tree_room(n))?;
     let mut ones = [0u64; 256];
     let mut zeros = [0u64; 256];
     let tree = groups::grow_tree(file, n, m, needed, workspace, &mut ones, &mut zeros);
@@ -115,14 +97,11 @@ fn tree_taken(file: &[u8], n: u16, m: u16, workspace: &mut [i32], out: &mut [u8]
 }
 
 // The operation "tree": groups and costs, as an answer file without flips.
-pub fn tree(file: &[u8], workspace: &mut [i32], out: &mut [u8]) -> Built
+pub fn tree(file: &[u8], workspace: &mut [i32], out: &mut [u8]) -> Result<Built, Refusal>
     ensures { GivesTree file.now workspace.old out.old result workspace.new out.new }
 {
-    let answer = matrix::check(file);
-    match answer {
-        Checked::Taken(n, m) => tree_taken(file, n, m, workspace, out),
-        Checked::Refused(why) => Built::Refused(why),
-    }
+    let Shape { n, m } = matrix::check(file)?;
+    tree_taken(file, n, m, workspace, out)
 }
 
 // Whether a tree file has so many taxa and columns.
@@ -145,43 +124,31 @@ fn flips_taken(
     m: u16,
     workspace: &mut [i32],
     out: &mut [u8],
-) -> Built
-    requires { (checks.Taken n m ≡ checked file.now) × (16 ≤ length tree.now) }
+) -> Result<Built, Refusal>
+    requires { (Ok (shape n m) ≡ checked file.now) × (16 ≤ length tree.now) }
     ensures { (result ≡ agreed file.now tree.now n m (length workspace.old) (length out.old))
         × (out.new ≡ output_after file.now result out.old)
         × (workspace.new ≡ flips_workspace file.now result workspace.old) }
 {
     if !agrees(tree, n, m) {
-        return refused(15);
+        return Err(Reason::Differ.at(0));
     }
     let needed = columns::one_entries(file, m as usize);
-    let wanted = answer_room(n, m);
-    let lack = lack(workspace.len(), needed, out.len(), wanted);
-    if lack != 0 {
-        return refused(lack);
-    }
+    check_lent(workspace.len(), needed, out.len(), answer_room(n, m))?;
     let mut ones = [0u64; 256];
     let mut zeros = [0u64; 256];
     let own = groups::grow_tree(file, n, m, needed, workspace, &mut ones, &mut zeros);
     if !answers::is_tree(tree, own) {
-        return refused(26);
+        return Err(Reason::OtherTree.at(0));
     }
     answers::write_whole(file, own, &mut ones, &mut zeros, out)
 }
 
 // The operation "flips": a matrix and its tree, as an answer file without flips, to the whole answer.
-pub fn flips(file: &[u8], tree: &[u8], workspace: &mut [i32], out: &mut [u8]) -> Built
+pub fn flips(file: &[u8], tree: &[u8], workspace: &mut [i32], out: &mut [u8]) -> Result<Built, Refusal>
     ensures { GivesFlips file.now tree.now workspace.old out.old result workspace.new out.new }
 {
-    let answer = matrix::check(file);
-    match answer {
-        Checked::Refused(why) => Built::Refused(why),
-        Checked::Taken(n, m) => {
-            let passed = pass_file(tree);
-            let Passed::At(_) = passed else {
-                return Built::Refused(passed.refusal());
-            };
-            flips_taken(file, tree, n, m, workspace, out)
-        }
-    }
+    let Shape { n, m } = matrix::check(file)?;
+    pass_file(tree)?;
+    flips_taken(file, tree, n, m, workspace, out)
 }

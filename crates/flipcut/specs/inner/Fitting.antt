@@ -1,8 +1,7 @@
 -- An answer whose numbers fit the bits that they are packed into.
 use Rattle.std.specs.Prelude.{◌^◌, ◌<◌, Result, Ok, Err}
 use Rattle.record.specs.declared.refusal.Refusal.{Refusal}
-use Rattle.answer.specs.declared.Verdict.{Verdict}
-use Rattle.answer.specs.declared.Verdict.TheVariants as verdict
+use Rattle.answer.specs.declared.Answer.{Answer}
 use Rattle.flipcut.specs.Packed.{told}
 use Rattle.record.specs.Refusals.{refusal_number}
 use Rattle.matrix.specs.declared.Shape.{Shape}
@@ -13,7 +12,7 @@ use Rattle.newick.specs.declared.Derived.{Derived}
 
 -- A refusal.
 abbrev pub RefusalFits : Refusal → Type 0
-RefusalFits why = ((refusal_number why.reason) < 2 ^ 8) × (why.place < 2 ^ 55)
+RefusalFits why = (refusal_number why.reason < 2 ^ 8) × (why.place < 2 ^ 55)
 
 -- What the check answers.
 abbrev pub CheckFits : Result Shape Refusal → Type 0
@@ -31,9 +30,9 @@ SplitFits (Ok it) = Unit
 SplitFits (Err why) = RefusalFits why
 
 -- What reading answers.
-abbrev pub ReadFits : Verdict → Type 0
-ReadFits verdict.Taken = Unit
-ReadFits (verdict.Refused why) = RefusalFits why
+abbrev pub ReadFits : Result Answer Refusal → Type 0
+ReadFits (Ok answer) = Unit
+ReadFits (Err why) = RefusalFits why
 
 -- What writing answers.
 abbrev pub WriteFits : Result ℕ Refusal → Type 0

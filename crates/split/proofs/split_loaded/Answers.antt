@@ -7,7 +7,6 @@ use Rattle.matrix.proofs.Taken.{taken_multiplied}
 use Rattle.method.specs.Flow.{arc_count}
 use Rattle.search.specs.Search.{cols_of}
 use Rattle.split.proofs.Soundness.{can_load, read_multiplicities, read_positive}
-use Rattle.split.proofs.Dividing.{t_small}
 use Rattle.split.proofs.Answering.{given, found, arcs_fit, still_cleared}
 use Rattle.split.proofs.split_loaded.Goals as goal
 
@@ -28,16 +27,13 @@ pub clear-requires : goal.clear-requires
 clear-requires c = let pre = c.requires in omega (arith, pre.0.long, pre.3)
 
 -- The search of the group uses no more numbers than were cleared.
-pub divide-found-requires : goal.divide-found-requires
-divide-found-requires c =
+pub divide-requires : goal.divide-requires
+divide-requires c =
     let pre = c.requires in
     let bytes : File c.args.file.now = record { byte = λ i. omega (arith, c.type_inv.file i) } in
     let few_arcs : arc_count c.args.m (cols_of c.load.new.weights c.load.new.ones c.load.new.zeros) c.args.group ≤ c.args.needed =
     arcs_fit bytes pre.0 pre.3 c.load.ensures.0 in
     (given bytes pre.0 c.load.ensures.1 (c.load.ensures.2 ∙ pre.2) (read_positive bytes pre.0.taken _ c.planes_in-planes.ensures.0) c.planes_in-planes.ensures.1, omega (arith, few_arcs, pre.0.long, pre.3), record { joins = refl; limits = refl; offsets = refl; spare = record { counts = refl; tree = refl } })
-
-pub overflow_cast-result : goal.overflow_cast-result
-overflow_cast-result c = omega (arith, t_small c.divide-found.ensures.0)
 
 pub returns : goal.returns
 returns c =
@@ -45,4 +41,4 @@ returns c =
     let bytes : File c.args.file.now = record { byte = λ i. omega (arith, c.type_inv.file i) } in
     let few_arcs : arc_count c.args.m (cols_of c.load.new.weights c.load.new.ones c.load.new.zeros) c.args.group ≤ c.args.needed =
     arcs_fit bytes pre.0 pre.3 c.load.ensures.0 in
-    (found bytes pre.0 c.divide-found.ensures.0 (read_multiplicities bytes pre.0.taken _ c.planes_in-planes.ensures.0) c.load.ensures.0, still_cleared _ few_arcs (omega (arith, pre.0.long, pre.3)) c.clear.ensures c.divide-found.ensures.1)
+    (found bytes pre.0 c.divide.ensures.0 (read_multiplicities bytes pre.0.taken _ c.planes_in-planes.ensures.0) c.load.ensures.0, still_cleared _ few_arcs (omega (arith, pre.0.long, pre.3)) c.clear.ensures c.divide.ensures.1)

@@ -1,18 +1,19 @@
 -- `split::split_matrix` meets its contract: each return is a row of the operation's table.
 use native.Mathlib.Omega.{arith}
-use mathlib.Core.Path.{◌≡◌, refl, sym, ◌∙◌}
+use mathlib.Core.Path.{◌≡◌, refl, sym, ap, ◌∙◌}
 use lib.ListN.{length}
 use lib.Seq.{length-take-le}
 use Rattle.taxa.specs.Sets.{within, all}
 use Rattle.taxa.proofs.Members.{within_⊆}
 use Rattle.record.specs.Bytes.{File}
+use Rattle.std.specs.Prelude.{Err}
 use Rattle.split.specs.inner.Handing.{Splittable}
 use Rattle.split.proofs.Soundness.{few_taxa, few_columns, can_load}
 use Rattle.split.proofs.Answering.{one_taxon, unknown_taxon, no_room, all_tested, cleared_after, left_alone}
 use Rattle.split.proofs.split_matrix.Goals as goal
 
 pub returns-then-size-lt2 : goal.returns-then-size-lt2
-returns-then-size-lt2 c = (one_taxon _ _ _ _ _ (omega arith), left_alone _ _ _)
+returns-then-size-lt2 c = (ap Err c.at.ensures ∙ one_taxon _ _ _ _ _ (omega arith), left_alone _ _ _)
 
 pub overflow_cast-n : goal.overflow_cast-n
 overflow_cast-n c =
@@ -27,7 +28,7 @@ all-requires c =
 pub returns-then-not-subset : goal.returns-then-not-subset
 returns-then-not-subset c =
     let tested : within c.args.group (all c.args.n) ≡ c.subset.result = rw (← c.all.ensures) (sym c.subset.ensures) in
-    (unknown_taxon _ _ _ _ _ (tested ∙ c.if-not-subset.true), left_alone _ _ _)
+    (ap Err c.at-then-not-subset.ensures ∙ unknown_taxon _ _ _ _ _ (tested ∙ c.if-not-subset.true), left_alone _ _ _)
 
 pub one_entries-needed-requires : goal.one_entries-needed-requires
 one_entries-needed-requires c =
@@ -38,7 +39,7 @@ one_entries-needed-requires c =
 pub returns-then-workspace-needed : goal.returns-then-workspace-needed
 returns-then-workspace-needed c =
     let tested : within c.args.group (all c.args.n) ≡ c.subset.result = rw (← c.all.ensures) (sym c.subset.ensures) in
-    (no_room _ _ _ _ _ (omega arith) (tested ∙ c.if-not-subset.false) (omega (arith, c.if-workspace-needed.true, c.one_entries-needed.ensures)), left_alone _ _ _)
+    (ap Err c.at-then-workspace-needed.ensures ∙ no_room _ _ _ _ _ (omega arith) (tested ∙ c.if-not-subset.false) (omega (arith, c.if-workspace-needed.true, c.one_entries-needed.ensures)), left_alone _ _ _)
 
 pub slice_bounds-weights-end : goal.slice_bounds-weights-end
 slice_bounds-weights-end c =

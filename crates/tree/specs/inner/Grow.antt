@@ -1,5 +1,5 @@
 -- What the functions of the walk hand to each other.
-use Rattle.std.specs.Prelude.{◌≡◌, cond, List, [], ◌++◌, ℕ, ◌+◌, ◌*◌, ◌^◌, ◌≤◌, ◌<◌, ltb, ℤ, length, get_or, take, Result, Ok, Err}
+use Rattle.std.specs.Prelude.{◌≡◌, cond, List, [], ◌++◌, ℕ, ◌+◌, ◌*◌, ◌^◌, ◌≤◌, ◌<◌, ltb, ℤ, length, get_or, take, Result, Ok, Err, ⊤}
 use Rattle.taxa.specs.Sets.{Positive, multiplicity_in, Tabled, count}
 use Rattle.matrix.specs.Matrix.{columns_at}
 use Rattle.matrix.specs.Check.{checked}
@@ -16,6 +16,8 @@ use Rattle.split.specs.Columns.{matrix_in}
 use Rattle.tree.specs.Lists.{first_groups}
 use Rattle.tree.specs.Build.{tree_for}
 use Rattle.tree.specs.inner.Lists.{Room, unweighed}
+use Rattle.record.specs.Refusals.{refused}
+use Rattle.record.specs.declared.refusal.Reason.TheVariants as reason
 use Rattle.record.specs.declared.refusal.Refusal.{Refusal}
 use Rattle.matrix.specs.Check.{shape}
 use Rattle.tree.specs.declared.Built.{Built}
@@ -121,6 +123,7 @@ pub record Answers (c : Content) (entries : ℕ) (out : List ℕ) (r : Result Bu
   pub answers : r ≡ written_as c.total (writing c entries (length out))
   pub output : out' ≡ put (writing c entries (length out)) (file_of c) out
 
--- What is lent and too short: 9 for the workspace, 10 for the output, 0 where both are long enough.
-unfoldable pub lacking : ℕ → ℕ → ℕ → ℕ → ℕ
-lacking space needed room wanted = cond (ltb space needed) 9 (cond (ltb room wanted) 10 0)
+-- What is lent and too short: the workspace (9), or else the output (10).
+unfoldable pub lent_checked : ℕ → ℕ → ℕ → ℕ → Result ⊤ Refusal
+lent_checked space needed room wanted =
+    cond (ltb space needed) (Err (refused reason.Workspace 0)) (cond (ltb room wanted) (Err (refused reason.Room 0)) (Ok tt))

@@ -1,5 +1,5 @@
 -- `flipcut::pack::check_names` meets its contract: by the case.
 use Rattle.flipcut.proofs.pack.check_names.Goals as goal
 
-pub returns-in-Refused : goal.returns-in-Refused
-returns-in-Refused c = rw c.in-Refused.is c.far_refusal.ensures
+pub returns-in-Err : goal.returns-in-Err
+returns-in-Err c = rw c.in-Err.is c.far_refusal.ensures

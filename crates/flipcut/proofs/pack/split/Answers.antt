@@ -3,10 +3,10 @@ use mathlib.Core.Path.{refl}
 use Rattle.flipcut.proofs.pack.split.Goals as goal
 
 pub refusal-requires : goal.refusal-requires
-refusal-requires c = rw c.in-Refused.is at c.requires
+refusal-requires c = rw c.in-Err.is at c.requires
 
-pub returns-in-Taken : goal.returns-in-Taken
-returns-in-Taken c = rw c.in-Taken.is (refl, refl)
+pub returns-in-Ok : goal.returns-in-Ok
+returns-in-Ok c = rw c.in-Ok.is (refl, refl)
 
-pub returns-in-Refused : goal.returns-in-Refused
-returns-in-Refused c = rw c.in-Refused.is (c.refusal.ensures, refl)
+pub returns-in-Err : goal.returns-in-Err
+returns-in-Err c = rw c.in-Err.is (c.refusal.ensures, refl)

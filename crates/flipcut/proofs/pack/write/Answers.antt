@@ -4,13 +4,13 @@ use mathlib.Core.Path.{refl}
 use Rattle.flipcut.proofs.pack.write.Goals as goal
 
 pub overflow_mul-result : goal.overflow_mul-result
-overflow_mul-result c = let small = rw c.in-Length.is at c.requires in record { fits = omega arith }
+overflow_mul-result c = let small = rw c.in-Ok.is at c.requires in record { fits = omega arith }
 
 pub refusal-requires : goal.refusal-requires
-refusal-requires c = rw c.in-Refused.is at c.requires
+refusal-requires c = rw c.in-Err.is at c.requires
 
-pub returns-in-Length : goal.returns-in-Length
-returns-in-Length c = rw c.in-Length.is refl
+pub returns-in-Ok : goal.returns-in-Ok
+returns-in-Ok c = rw c.in-Ok.is refl
 
-pub returns-in-Refused : goal.returns-in-Refused
-returns-in-Refused c = rw c.in-Refused.is c.refusal.ensures
+pub returns-in-Err : goal.returns-in-Err
+returns-in-Err c = rw c.in-Err.is c.refusal.ensures

@@ -13,30 +13,30 @@ use Rattle.tree.specs.inner.Grow.{tree_of}
 use Rattle.tree.proofs.Building.{answers_all}
 use Rattle.tree.proofs.answers.is_tree.Goals as goal
 
-pub returns-in-Taken : goal.returns-in-Taken
-returns-in-Taken c =
+pub returns-in-Ok : goal.returns-in-Ok
+returns-in-Ok c =
     let t = tree_of c.args.tree in
-    let wrote = answers_all c.write_tree-written.ensures refl c.requires.1 in
-    let size_is : c.in-Taken.size ≡ length_of t = let e = sym c.in-Taken.is ∙ wrote.0 in cc in
-    c.same.ensures ∙ ap (equal c.args.file.now) (ap (take c.in-Taken.size) wrote.1 ∙ front_is (file_of t) _ _ (length_file t ∙ sym size_is))
+    let wrote = answers_all c.write_tree.ensures refl c.requires.1 in
+    let size_is : c.in-Ok.built.size ≡ length_of t = let e = sym c.in-Ok.is ∙ wrote.0 in cc in
+    c.same.ensures ∙ ap (equal c.args.file.now) (ap (take c.in-Ok.built.size) wrote.1 ∙ front_is (file_of t) _ _ (length_file t ∙ sym size_is))
 
-pub returns-in-Refused : goal.returns-in-Refused
-returns-in-Refused c =
-    let wrote : c.write_tree-written.result ≡ written (tree_of c.args.tree) = (answers_all c.write_tree-written.ensures refl c.requires.1).0 in
-    let e = sym c.in-Refused.is ∙ wrote in
+pub returns-in-Err : goal.returns-in-Err
+returns-in-Err c =
+    let wrote : c.write_tree.result ≡ written (tree_of c.args.tree) = (answers_all c.write_tree.ensures refl c.requires.1).0 in
+    let e = sym c.in-Err.is ∙ wrote in
     absurd (let z : ◌≡◌ {A = ℕ} 0 1 = cc in omega arith)
 
-pub write_tree-written-requires : goal.write_tree-written-requires
-write_tree-written-requires c = c.requires.0
+pub write_tree-requires : goal.write_tree-requires
+write_tree-requires c = c.requires.0
 
 pub slice_bounds-own-end : goal.slice_bounds-own-end
 slice_bounds-own-end c =
-    let wrote = answers_all c.write_tree-written.ensures refl c.requires.1 in
-    let size_is : c.in-Taken.size ≡ length_of (tree_of c.args.tree) = let e = sym c.in-Taken.is ∙ wrote.0 in cc in
+    let wrote = answers_all c.write_tree.ensures refl c.requires.1 in
+    let size_is : c.in-Ok.built.size ≡ length_of (tree_of c.args.tree) = let e = sym c.in-Ok.is ∙ wrote.0 in cc in
     omega (arith, size_is, c.requires.2)
 
 pub slice_bounds-same-end : goal.slice_bounds-same-end
 slice_bounds-same-end c =
-    let wrote = answers_all c.write_tree-written.ensures refl c.requires.1 in
-    let size_is : c.in-Taken.size ≡ length_of (tree_of c.args.tree) = let e = sym c.in-Taken.is ∙ wrote.0 in cc in
+    let wrote = answers_all c.write_tree.ensures refl c.requires.1 in
+    let size_is : c.in-Ok.built.size ≡ length_of (tree_of c.args.tree) = let e = sym c.in-Ok.is ∙ wrote.0 in cc in
     sym (length-take-le _ _ (omega (arith, size_is, c.requires.2)))
