@@ -60,7 +60,7 @@ module _ (matrix answer : List ℕ) (n m : ℕ) {a : Answer} (value : a ≡ answ
       let node = same_node μ answer n value e in
       let up' = up_is ∙ ap (λ (f : Column → ℕ). raises_of μ (column_in matrix) f m) node ∙ ap (λ (ν : ℕ → ℕ). raises_of ν (column_in matrix) (node_in ν answer) m) stand in
       let down' = down_is ∙ ap (λ (f : Column → ℕ). lowers_of μ (column_in matrix) f m) node ∙ ap (λ (ν : ℕ → ℕ). lowers_of ν (column_in matrix) (node_in ν answer) m) stand in
-      rw (eq-eqb (content_in answer).n n (rw value at e), eq-eqb (content_in answer).m m (rw value at e')) (λ i. Ok it)
+      rw (eq-eqb (content_in answer).n n (rw value at e), eq-eqb (content_in answer).m m (rw value at e')) (λ i. Ok (record { raises = record { 0 = up' i }; lowers = record { 0 = down' i } }))
 
 -- ---- the operation
 

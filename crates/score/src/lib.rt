@@ -178,14 +178,15 @@ fn score_read(matrix: &[u8], answer: &[u8], n: u16, m: u16) -> Result<Sums, Refu
     }
     let planes = matrix::planes_in(matrix);
     let groups = value.taxa;
-    Ok(score_columns(
+    let sums = score_columns(
         &planes,
         matrix,
         m as usize,
         u32::from(n),
         &groups,
         value.groups as usize,
-    ))
+    );
+    Ok(sums)
 }
 
 // The operation "score".

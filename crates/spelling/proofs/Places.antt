@@ -13,6 +13,7 @@ use Rattle.record.specs.Bytes.{File}
 use Rattle.record.specs.Records.{Passed}
 use Rattle.record.specs.declared.Cursor.{Cursor}
 use Rattle.record.specs.declared.refusal.Refusal.{Refusal}
+use Rattle.record.specs.declared.refusal.Reason.{Reason}
 use Rattle.record.specs.declared.refusal.Reason.TheVariants as reason
 use Rattle.record.specs.Refusals.{refused, refusal_number}
 use Rattle.record.proofs.Steps.{either_way}
@@ -35,8 +36,8 @@ module _ {answer : List ℕ} (f : File answer) (list : List ℕ) (room : ℕ) wh
   unfolding after_both
   both_small {here} passes {count} taken = go (eqb count (content_in answer).n) refl
     where
-      at_start : (number : ℕ) → 0 < number → number ≤ 18 → Small list (Err (refused number 0))
-      at_start number some few = (omega arith, some, few)
+      at_start : (why : Reason) → 0 < refusal_number why → refusal_number why ≤ 18 → Small list (Err (refused why 0))
+      at_start why some few = (omega arith, some, few)
 
       size : ℕ
       size = length (text_of answer list)
@@ -46,8 +47,8 @@ module _ {answer : List ℕ} (f : File answer) (list : List ℕ) (room : ℕ) wh
       go true e =
           let as_many = eqb-true count (content_in answer).n e in
           let short = never_longer f (record { here = here; passes = passes; taken = rw as_many at taken }) in
-          either_way (Small list) (ltb room size) (at_start 10 (omega arith) (omega arith)) short
-      go false e = at_start 15 (omega arith) (omega arith)
+          either_way (Small list) (ltb room size) (at_start reason.Room (omega arith) (omega arith)) short
+      go false e = at_start reason.Differ (omega arith) (omega arith)
 
   list_small : {here : Cursor} → Ok here ≡ file_tests answer → (l : Result ℕ Refusal) → l ≡ checked list → Small list (after_list answer list room l)
   list_small passes (Ok count) e = both_small passes e

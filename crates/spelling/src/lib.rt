@@ -11,19 +11,11 @@ ghost use Rattle.spelling.specs.inner.Spell.{text_for, groups_of, Readable, Tell
 
 use answer::Answer;
 use answer::reader::{answer_in, pass_file};
-use names::Listed;
+use record::refusal::{Reason, Refusal};
 use record::writer::put_bytes;
-use record::{Passed, Refusal};
 
 // No text is longer: 64 names of 32 bytes, 63 brackets that open and close, a comma after each name but the last, and the semicolon.
 pub const LONGEST: usize = 64 * 32 + 63 * 2 + 64;
-
-// What writing answers: how many bytes were written, or the refusal.
-#[derive(Clone, Copy)]
-pub enum Spelled {
-    Length(usize),
-    Refused(Refusal),
-}
 
 // The whole text of an answer, at the front of the room. Returns its length.
 fn spell_all(value: Answer, list: &[u8], room: &mut [u8]) -> usize
@@ -32,48 +24,41 @@ fn spell_all(value: Answer, list: &[u8], room: &mut [u8]) -> usize
 {
     let groups = value.taxa;
     let k = value.groups as usize;
-    let end = spell::spell(&groups[..k], list, taxa::all(value.n as u32), room, 0);
+    let end = spell::spell(&groups[..k], list, taxa::all(u32::from(value.n)), room, 0);
     room[end] = b';';
     end + 1
 }
 
 // An answer and a list that were read: the number of names has to be the answer's. The text is made aside, so that its length is known before the first
 // byte of the output is written.
-fn write_read(answer: &[u8], list: &[u8], count: usize, out: &mut [u8]) -> Spelled
+fn write_read(
+    answer: &[u8],
+    list: &[u8],
+    count: usize,
+    out: &mut [u8],
+) -> Result<usize, Refusal>
     requires { Readable answer.now list.now count }
     ensures { (result ≡ text.after_both answer.now list.now count (length out.old))
         × (out.new ≡ text.output_after answer.now list.now result out.old) }
 {
     let value = answer_in(answer);
     if count != value.n as usize {
-        return Spelled::Refused(Refusal {
-            number: 15,
-            place: 0,
-        });
+        return Err(Reason::Differ.at(0));
     }
     let mut room = [0u8; LONGEST];
     let size = spell_all(value, list, &mut room);
     if out.len() < size {
-        return Spelled::Refused(Refusal {
-            number: 10,
-            place: 0,
-        });
+        return Err(Reason::Room.at(0));
     }
     put_bytes(out, &room[..size]);
-    Spelled::Length(size)
+    Ok(size)
 }
 
-// The operation "write as Newick".
-pub fn write(answer: &[u8], list: &[u8], out: &mut [u8]) -> Spelled
+// The operation "write as Newick": how many bytes were written.
+pub fn write(answer: &[u8], list: &[u8], out: &mut [u8]) -> Result<usize, Refusal>
     ensures { text.Spells answer.now list.now out.old result out.new }
 {
-    let passed = pass_file(answer);
-    let Passed::At(_) = passed else {
-        return Spelled::Refused(passed.refusal());
-    };
-    let listed = names::check(list);
-    match listed {
-        Listed::Taken(count) => write_read(answer, list, count, out),
-        Listed::Refused(why) => Spelled::Refused(why),
-    }
+    pass_file(answer)?;
+    let count = names::check(list)?;
+    write_read(answer, list, count, out)
 }

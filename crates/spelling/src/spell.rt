@@ -19,16 +19,14 @@ fn wider(set: u64, group: u64, part: u64) -> u64
     }
 }
 
-// The part of a set that has one of its taxa. The loop goes down, as the definition does.
+// The part of a set that has one of its taxa. The loop goes from the last group to the first, as the definition does.
 fn part_of(groups: &[u64], set: u64, taxon: u32) -> u64
     requires { taxon < 64 }
     ensures { result ≡ draw.part groups.now set taxon }
 {
     let mut part = taxa::single(taxon);
-    let mut i = groups.len();
-    while i > 0 {
-        i -= 1;
-        part = wider(set, groups[i], part);
+    for &group in groups.iter().rev() {
+        part = wider(set, group, part);
     }
     part
 }

@@ -10,8 +10,8 @@ overflow_mul-result c =
     let raises = c.raises_at-raises in
     let lowers = c.lowers_at-lowers in
     let few : raises.result.0 + lowers.result.0 ≤ 16256 = omega arith in
-    record { fits = omega (arith, mul-le-mul_left c.args.it.weight few) }
+    record { fits = omega (arith, mul-le-mul_left c.from.result few) }
 
 pub returns : goal.returns
 unfolding distance
-returns c = rw (c.raises_at-raises.ensures.0, c.lowers_at-lowers.ensures.0)
+returns c = rw (c.from.ensures, c.raises_at-raises.ensures.0, c.lowers_at-lowers.ensures.0)

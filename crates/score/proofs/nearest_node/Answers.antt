@@ -1,17 +1,24 @@
 -- `score::nearest_node` meets its contract. The invariant: `best` counts among those passed.
-use borrow.Author.Rules.{rules}
 use native.Mathlib.Omega.{arith}
 use mathlib.Core.Path.{◌≡◌, refl}
-use Rattle.score.proofs.Nearest.{one_more}
+use Prim.Native.Nat.{◌<◌}
+use lib.ListN.{length, take}
+use lib.Seq.{length-take-le}
+use Rattle.std.proofs.lemmas.List.{get_or-take}
 use Rattle.score.specs.Score.{nearest_in}
+use Rattle.score.proofs.Nearest.{one_more}
 use Rattle.score.proofs.nearest_node.Goals as goal
 
-pub loop-i-init : goal.loop-i-init
+pub loop-group-init : goal.loop-group-init
 unfolding nearest_in
-loop-i-init c = (search rules, refl)
+loop-group-init c = refl
 
-pub loop-i-preserved : goal.loop-i-preserved
-loop-i-preserved c = (search rules, rw (one_more, ← c.loop-i.invariant.1) c.nearest_of-best.ensures)
+pub loop-group-preserved : goal.loop-group-preserved
+loop-group-preserved c =
+    let inside : c.loop-group.group-index < c.args.k = omega (arith, length-take-le c.args.k c.args.groups.now c.requires) in
+    rw (one_more, ← c.loop-group.invariant) (rw get_or-take at c.nearest_of-best.ensures)
 
 pub returns : goal.returns
-returns c = let all : c.loop-i.i ≡ c.args.k = omega arith in rw (← all) c.loop-i.invariant.1
+returns c =
+    let all : c.loop-group.group-index ≡ c.args.k = omega (arith, length-take-le c.args.k c.args.groups.now c.requires) in
+    rw (← all) c.loop-group.invariant

@@ -1,19 +1,19 @@
 -- `score::score` meets its contract: the matrix's refusal, the answer's, or what two files that were read come to.
-use mathlib.Core.Path.{sym, ap, ◌∙◌}
-use Rattle.std.specs.Prelude.{Err}
-use Rattle.record.specs.Records.{passed_refusal}
+use mathlib.Core.Path.{sym, ◌∙◌}
+use Rattle.record.proofs.Passing.{handed_on}
 use Rattle.score.proofs.Scoring.{matrix_refused, answer_refused, both_read}
 use Rattle.score.proofs.score.Goals as goal
 
-pub returns-in_default : goal.returns-in_default
-returns-in_default c =
-    answer_refused _ _ (sym c.in-Taken.is ∙ c.check-checked.ensures.answers) (ap Err (c.refusal.ensures ∙ ap passed_refusal c.in_default.is) ∙ sym c.in_default.is ∙ c.pass_file-passed.ensures)
+pub returns-in_err-shape : goal.returns-in_err-shape
+returns-in_err-shape c = rw (handed_on _ _ c.from_residual.ensures.1) (matrix_refused _ _ (sym c.in_err-shape.was ∙ c.check.ensures.answers))
+
+pub returns-in_err-pass_file : goal.returns-in_err-pass_file
+returns-in_err-pass_file c =
+    rw (handed_on _ _ c.from_residual-in_err-pass_file.ensures.1)
+    (answer_refused _ _ (sym c.in_ok-shape.was ∙ c.check.ensures.answers) (sym c.in_err-pass_file.was ∙ c.pass_file.ensures))
 
 pub score_read-requires : goal.score_read-requires
-score_read-requires c = record { taken = sym c.in-Taken.is ∙ c.check-checked.ensures.answers; here = _; passes = sym c.in-At.is ∙ c.pass_file-passed.ensures }
+score_read-requires c = record { taken = sym c.in_ok-shape.was ∙ c.check.ensures.answers; here = _; passes = sym c.in_ok-pass_file.was ∙ c.pass_file.ensures }
 
-pub returns-in-Refused : goal.returns-in-Refused
-returns-in-Refused c = matrix_refused _ _ (sym c.in-Refused.is ∙ c.check-checked.ensures.answers)
-
-pub returns-in-At : goal.returns-in-At
-returns-in-At c = both_read _ _ (sym c.in-Taken.is ∙ c.check-checked.ensures.answers) (sym c.in-At.is ∙ c.pass_file-passed.ensures) c.score_read.ensures
+pub returns : goal.returns
+returns c = both_read _ _ (sym c.in_ok-shape.was ∙ c.check.ensures.answers) (sym c.in_ok-pass_file.was ∙ c.pass_file.ensures) c.score_read.ensures

@@ -9,7 +9,7 @@ use Rattle.score.proofs.score_columns.Goals as goal
 
 pub loop-c-init : goal.loop-c-init
 unfolding raises_of lowers_of sum
-loop-c-init c = (search rules, refl, refl, search rules, search rules)
+loop-c-init c = (refl, refl, search rules, search rules)
 
 pub with_column-sum-requires : goal.with_column-sum-requires
 with_column-sum-requires c =
@@ -22,10 +22,10 @@ loop-c-preserved c =
     let l = c.loop-c in
     let up = rw (node, it) at c.with_column-sum.ensures.raised in
     let down = rw (node, it) at c.with_column-sum.ensures.lowered in
-    (search rules, rw (raises_next, ← l.invariant.1) up.0, rw (lowers_next, ← l.invariant.2) down.0, omega arith, omega arith)
+    (rw (raises_next, ← l.invariant.0) up.0, rw (lowers_next, ← l.invariant.1) down.0, omega arith, omega arith)
 
 pub returns : goal.returns
 returns c =
     let l = c.loop-c in
     let all : l.c ≡ c.args.m = omega arith in
-    rw (← all) (record { raised = (l.invariant.1, l.invariant.3); lowered = (l.invariant.2, l.invariant.4) })
+    rw (← all) (record { raised = (l.invariant.0, l.invariant.2); lowered = (l.invariant.1, l.invariant.3) })

@@ -1,5 +1,7 @@
 -- `score::score_read` meets its contract: each return is a row of `agreed`.
+use mathlib.Core.Path.{ap, ◌∙◌}
 use native.Mathlib.Omega.{arith}
+use Rattle.std.specs.Prelude.{Err}
 use Rattle.record.specs.Bytes.{File}
 use Rattle.answer.proofs.Outcomes.{laid, groups_placed}
 use Rattle.matrix.proofs.Taken.{taken_legal, taken_length, taken_taxa, taken_columns, taken_multiplied}
@@ -11,16 +13,16 @@ pub answer_in-value-requires : goal.answer_in-value-requires
 answer_in-value-requires c = let l = laid _ c.requires.passes in (omega (arith, l.head_kept.few, l.head_kept.fewer), l.flips_at)
 
 pub returns-then-value-n : goal.returns-then-value-n
-returns-then-value-n c = other_taxa _ _ _ _ c.answer_in-value.ensures (omega arith)
+returns-then-value-n c = ap Err c.at.ensures ∙ other_taxa _ _ _ _ c.answer_in-value.ensures (omega arith)
 
 pub returns-then-value-m : goal.returns-then-value-m
-returns-then-value-m c = other_columns _ _ _ _ c.answer_in-value.ensures (omega arith) (omega arith)
+returns-then-value-m c = ap Err c.at-then-value-m.ensures ∙ other_columns _ _ _ _ c.answer_in-value.ensures (omega arith) (omega arith)
 
 pub planes_in-planes-requires : goal.planes_in-planes-requires
 planes_in-planes-requires c = taken_multiplied (record { byte = λ i. omega (arith, c.type_inv.matrix i) }) c.requires.taken
 
-pub score_columns-sum-requires : goal.score_columns-sum-requires
-score_columns-sum-requires c =
+pub score_columns-sums-requires : goal.score_columns-sums-requires
+score_columns-sums-requires c =
     let f : File c.args.matrix.now = record { byte = λ i. omega (arith, c.type_inv.matrix i) } in
     let taken = c.requires.taken in
     let l = laid _ c.requires.passes in
@@ -28,4 +30,5 @@ score_columns-sum-requires c =
 
 pub returns : goal.returns
 returns c =
-    taken_row _ _ _ _ c.answer_in-value.ensures c.planes_in-planes.ensures.0 (omega (arith, c.if-value-n.false)) (omega (arith, c.if-value-m.false)) c.score_columns-sum.ensures.raised.0 c.score_columns-sum.ensures.lowered.0
+    let sums = rw c.from.ensures at c.score_columns-sums.ensures in
+    taken_row _ _ _ _ c.answer_in-value.ensures c.planes_in-planes.ensures.0 (omega (arith, c.if-value-n.false)) (omega (arith, c.if-value-m.false)) sums.raised.0 sums.lowered.0

@@ -24,7 +24,7 @@ pub answer_in-value-requires : goal.answer_in-value-requires
 answer_in-value-requires c = let l = laid _ c.requires.passes in (omega (arith, l.head_kept.few, l.head_kept.fewer), l.flips_at)
 
 pub returns-then-count-value : goal.returns-then-count-value
-returns-then-count-value c = other_count _ _ _ c.answer_in-value.ensures _ c.if-count-value.true
+returns-then-count-value c = rw c.at.ensures (other_count _ _ _ c.answer_in-value.ensures _ c.if-count-value.true)
 
 -- ---- the text was made
 
@@ -38,7 +38,7 @@ pub returns-then-out-size : goal.returns-then-out-size
 returns-then-out-size c =
     let value = c.answer_in-value.result in
     let size : c.spell_all-size.result ≡ length (text_for (groups_of value) c.args.list.now value.n) = omega (arith, c.spell_all-size.ensures.ends) in
-    no_room _ _ _ c.answer_in-value.ensures c.if-count-value.false _ size (omega (arith, c.if-out-size.true))
+    rw c.at-then-out-size.ensures (no_room _ _ _ c.answer_in-value.ensures c.if-count-value.false _ size (omega (arith, c.if-out-size.true)))
 
 pub slice_bounds-room-end : goal.slice_bounds-room-end
 slice_bounds-room-end c = omega (arith, long c.spell_all-size.ensures, length-take c.spell_all-size.result c.spell_all-size.new.room)
