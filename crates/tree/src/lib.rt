@@ -134,7 +134,8 @@ fn flips_taken(
         return Err(Reason::Differ.at(0));
     }
     let needed = columns::one_entries(file, m as usize);
-    check_lent(workspace.len(), needed, out.len(), answer_room(n, m))?;
+    let wanted = answer_room(n, m);
+    check_lent(workspace.len(), needed, out.len(), wanted)?;
     let mut ones = [0u64; 256];
     let mut zeros = [0u64; 256];
     let own = groups::grow_tree(file, n, m, needed, workspace, &mut ones, &mut zeros);
