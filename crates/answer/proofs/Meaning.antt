@@ -24,7 +24,7 @@ use Rattle.answer.proofs.Rows as rows
 use Rattle.answer.proofs.Walks.{walk_each, walk_passes, no_fault, through_judge, given_group}
 use Rattle.answer.proofs.Stages.{Staged, staged, ends_with}
 use Rattle.answer.proofs.Outcomes.{given_head_kept, given_entry_kept}
-use Rattle.std.specs.Prelude.{Ok}
+use Rattle.std.specs.Prelude.{None, Ok}
 
 -- ---- one test, one rule
 
@@ -201,7 +201,7 @@ module _ {c : Content} (lawful : Lawful c) where
   place_holds zero b = eq-eqb _ _ (groups.first_is_all (omega (arith, fewer_groups)))
   place_holds (suc i) b = (follows_before _ _).1 (groups.in_order i (suc i) (omega arith) b)
 
-  group_holds : (i : ℕ) → i < c.groups → 0 ≡ group_fault c.n c.taxa i
+  group_holds : (i : ℕ) → i < c.groups → None ≡ group_fault c.n c.taxa i
   group_holds i b =
       rows.group_kept c.n c.taxa i ((within_⊆ _ _).1 (groups.known i b)) (groups.two_or_more i b) (place_holds i b)
       ((compatible_each c.taxa (get_or c.taxa i 0) i).1 (λ j l. groups.nested_or_disjoint j i (omega arith) b))
@@ -211,7 +211,7 @@ module _ {c : Content} (lawful : Lawful c) where
   floor_holds zero b = omega arith
   floor_holds (suc j) b = omega (arith, flips.rising j (suc j) (omega arith) b)
 
-  entry_holds : (j : ℕ) → j < c.flips → 0 ≡ entry_fault c.n c.m (floor_of c.columns j) (get_or c.columns j 0) (get_or c.raised j 0) (get_or c.lowered j 0)
+  entry_holds : (j : ℕ) → j < c.flips → None ≡ entry_fault c.n c.m (floor_of c.columns j) (get_or c.columns j 0) (get_or c.raised j 0) (get_or c.lowered j 0)
   entry_holds j b =
       rows.flips_kept c.n c.m _ _ _ _ ((within_⊆ _ _).1 (flips.raised_known j b)) ((within_⊆ _ _).1 (flips.lowered_known j b))
       (sym (rows.some_flip c.m _ _ _ _ (flips.column_known j b) (floor_holds j b) ((some_in_∪ _ _).1 (flips.not_both_empty j b))) ∙ eq-eqb _ _ (disjoint_∩ (flips.apart j b)))

@@ -11,13 +11,11 @@ use Rattle.record.specs.Refusals.{refused}
 use Rattle.record.proofs.Over.{length_over}
 use Rattle.record.specs.declared.Cursor.{Cursor}
 use Rattle.record.specs.declared.refusal.Refusal.{Refusal}
-use Rattle.answer.specs.declared.Reading.{Reading}
-use Rattle.answer.specs.declared.Verdict.TheVariants as verdict
 use Rattle.answer.specs.declared.Answer.{Answer}
 use Rattle.answer.specs.Content.{Content, content_in, content_of, answer_of, group_count, flip_count, flips_start, taxa_in, file_of, length_of}
 use Rattle.answer.specs.Rules.{floor_of}
 use Rattle.answer.specs.Tests.{judge, as_given, flips_test, tests}
-use Rattle.answer.specs.Reading.{listed, empty, file_tests, read_tests, reading, Reads}
+use Rattle.answer.specs.Reading.{listed, file_tests, read_tests, reading, Reads}
 use Rattle.answer.specs.Writing.{writing, write_tests, Writes}
 use Rattle.answer.proofs.Runs.{front_is}
 use Rattle.answer.proofs.Kept.{HeadKept, EntryKept, entry_keeps}
@@ -31,27 +29,25 @@ module _ (file columns raised lowered : List ℕ) where
   abbrev room : ℕ
   room = listed columns raised lowered
 
-  abbrev refused_by : Refusal → Reading
-  refused_by why = record { verdict = verdict.Refused why; answer = answer_of empty }
-
-  refuses : {why : Refusal} → Err why ≡ read_tests file room → Reads file columns raised lowered (refused_by why) columns raised lowered
+  refuses : {why : Refusal} → Err why ≡ read_tests file room → Reads file columns raised lowered (Err why) columns raised lowered
   unfolding reading
   refuses e = record { answers = rw (← e); numbers = rw (← e); columns_after = refl; raised_after = refl; lowered_after = refl }
 
-  pub file_refused : {why : Refusal} {r : Reading} → r ≡ refused_by why → Err why ≡ file_tests file → Reads file columns raised lowered r columns raised lowered
+  pub file_refused : {why : Refusal} → Err why ≡ file_tests file → Reads file columns raised lowered (Err why) columns raised lowered
   unfolding read_tests
-  file_refused s e = rw s (refuses (rw (← e)))
+  file_refused e = refuses (rw (← e))
 
-  pub no_room : {here : Cursor} {r : Reading} → r ≡ refused_by (refused reason.Room 0) → Ok here ≡ file_tests file → room < flip_count file → Reads file columns raised lowered r columns raised lowered
-  unfolding read_tests judge
-  no_room s e l = rw s (refuses (rw (← e, lt-ltb _ _ l)))
+  module _ {here : Cursor} (passed : Ok here ≡ file_tests file) where
+    pub no_room : room < flip_count file → Reads file columns raised lowered (Err (refused reason.Room 0)) columns raised lowered
+    unfolding read_tests judge
+    no_room l = refuses (rw (← passed, lt-ltb _ _ l))
 
-  pub taken : {here : Cursor} {r : Reading} {columns' raised' lowered' : List ℕ} → r ≡ record { verdict = verdict.Taken; answer = answer_of (content_in file) }
-      → Ok here ≡ file_tests file → flip_count file ≤ room
-      → columns' ≡ over (content_in file).columns 0 columns → raised' ≡ over (content_in file).raised 0 raised → lowered' ≡ over (content_in file).lowered 0 lowered
-      → Reads file columns raised lowered r columns' raised' lowered'
-  unfolding reading read_tests judge
-  taken s e l c' r' l' = rw s (record { answers = rw (← e, le-ltb _ _ l); numbers = rw (← e, le-ltb _ _ l); columns_after = c'; raised_after = r'; lowered_after = l' })
+    pub taken : {a : Answer} {columns' raised' lowered' : List ℕ} → flip_count file ≤ room → a ≡ answer_of (content_in file)
+        → columns' ≡ over (content_in file).columns 0 columns → raised' ≡ over (content_in file).raised 0 raised → lowered' ≡ over (content_in file).lowered 0 lowered
+        → Reads file columns raised lowered (Ok a) columns' raised' lowered'
+    unfolding reading read_tests judge
+    taken l value c' r' l' =
+        rw value (record { answers = rw (← passed, le-ltb _ _ l); numbers = rw (← passed, le-ltb _ _ l); columns_after = c'; raised_after = r'; lowered_after = l' })
 
 -- Where the parts of a file that passes lie.
 pub record Laid (file : List ℕ) : Type 0 where

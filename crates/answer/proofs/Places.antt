@@ -7,16 +7,16 @@ use Prim.Native.Nat.{ℕ, zero, suc, ◌+◌, ◌*◌, ◌≤◌, ◌<◌}
 use native.Mathlib.Omega.{arith}
 use lib.Dec.{ltb, eqb, lit<, lit≤}
 use lib.ListN.{get_or}
-use borrow.Author.Tests.{ne_eqb}
 use Rattle.taxa.specs.Sets.{within, count, all}
 use Rattle.record.specs.Records as records
 use Rattle.record.specs.Records.{payload, left, onward, nothing_after, Passed}
 use Rattle.record.specs.declared.Cursor.{Cursor}
+use Rattle.record.specs.declared.refusal.Reason.{Reason}
+use Rattle.record.specs.declared.refusal.Reason.TheVariants as reason
 use Rattle.record.specs.declared.refusal.Refusal.{Refusal}
 use Rattle.record.proofs.Passing.{through}
 use Rattle.record.proofs.Steps.{either_way}
 use Rattle.record.proofs.Places.{By, by_record}
-use Rattle.answer.specs.declared.Verdict.TheVariants as verdict
 use Rattle.answer.specs.Content.{Content, content_in, length_of, flip_count}
 use Rattle.answer.specs.Rules.{head_fault, counted, group_fault, placed, compatible_all, entry_fault, kept, sum_of}
 use Rattle.answer.specs.Tests.{judge, Meet, in_file, as_given, walk, start, head_test, group_test, entry_test, end_test, tests}
@@ -27,7 +27,7 @@ use Rattle.answer.proofs.Walks.{head_met, given_head}
 use Rattle.answer.proofs.Stages.{head_of, groups_of, flips_of}
 use Rattle.answer.proofs.Outcomes.{given_head_kept}
 use Rattle.answer.proofs.RoundTrip.{wrote}
-use Rattle.std.specs.Prelude.{Ok, Err}
+use Rattle.std.specs.Prelude.{Option, Some, None, Ok, Err}
 use Rattle.record.specs.Refusals.{refusal_number}
 
 -- The largest answer file has 20 + 16 · 63 + 22 · 256 bytes.
@@ -38,39 +38,40 @@ largest = 6660
 abbrev pub Few : ℕ → Type 0
 Few number = (0 < number) × (number ≤ 15)
 
--- ---- faults: such a number, or 0
+-- ---- faults: a reason of such a number, or none
 
-abbrev Fault : ℕ → Type 0
-Fault fault = fault ≤ 15
+abbrev Fault : Option Reason → Type 0
+Fault None = Unit {0}
+Fault (Some why) = Few (refusal_number why)
 
 head_few : (n m groups flips listed : ℕ) → Fault (head_fault n m groups flips listed)
 unfolding head_fault
 head_few n m groups flips listed =
-    either_way Fault (eqb n 0 || ltb 64 n) (lit≤ tt)
-    (either_way Fault (ltb 256 m) (lit≤ tt)
-    (either_way Fault (counted n groups) (either_way Fault (ltb m flips || ltb listed flips) (lit≤ tt) (lit≤ tt)) (lit≤ tt)))
+    either_way Fault (eqb n 0 || ltb 64 n) (lit< tt, lit≤ tt)
+    (either_way Fault (ltb 256 m) (lit< tt, lit≤ tt)
+    (either_way Fault (counted n groups) (either_way Fault (ltb m flips || ltb listed flips) (lit< tt, lit≤ tt) tt) (lit< tt, lit≤ tt)))
 
 group_few : (n : ℕ) (taxa : List ℕ) (i : ℕ) → Fault (group_fault n taxa i)
 unfolding group_fault
 group_few n taxa i =
     let x = get_or taxa i 0 in
-    either_way Fault (within x (all n)) (either_way Fault (ltb 1 (count 64 x) && (placed n taxa i && compatible_all taxa x i)) (lit≤ tt) (lit≤ tt)) (lit≤ tt)
+    either_way Fault (within x (all n)) (either_way Fault (ltb 1 (count 64 x) && (placed n taxa i && compatible_all taxa x i)) tt (lit< tt, lit≤ tt)) (lit< tt, lit≤ tt)
 
 entry_few : (n m floor column raised lowered : ℕ) → Fault (entry_fault n m floor column raised lowered)
 unfolding entry_fault
 entry_few n m floor column raised lowered =
-    either_way Fault (within raised (all n) && within lowered (all n)) (either_way Fault (kept m floor column raised lowered) (lit≤ tt) (lit≤ tt)) (lit≤ tt)
+    either_way Fault (within raised (all n) && within lowered (all n)) (either_way Fault (kept m floor column raised lowered) tt (lit< tt, lit≤ tt)) (lit< tt, lit≤ tt)
 
-judge_by : (far fault place : ℕ) (next : Cursor) → Fault fault → place ≤ far → next.at ≤ far → By Few far (judge fault place next)
+judge_by : (far : ℕ) (fault : Option Reason) (place : ℕ) (next : Cursor) → Fault fault → place ≤ far → next.at ≤ far → By Few far (judge fault place next)
 unfolding judge
-judge_by far zero place next few l near = near
-judge_by far (suc fault) place next few l near = rw (ne_eqb (suc fault) 0 (λ e. omega arith)) (l, (omega arith, few))
+judge_by far None place next few l near = near
+judge_by far (Some why) place next few l near = (l, few)
 
 -- ---- records
 
 -- However a record is met, judging it at its place ends by its own end, and a head that passes keeps its rules.
 record Near (meet : Meet) : Type 0 where
-  by : (kind far fault : ℕ) (here : Cursor) → Fault fault → here.at + (4 + payload kind) ≤ far → By Few far (meet kind here (judge fault here.at))
+  by : (kind far : ℕ) (fault : Option Reason) (here : Cursor) → Fault fault → here.at + (4 + payload kind) ≤ far → By Few far (meet kind here (judge fault here.at))
   keeps : (n m groups flips listed : ℕ) {next : Cursor} → Ok next ≡ head_test meet n m groups flips listed → HeadKept n m groups flips listed
 
 file_near : (file : List ℕ) → Near (in_file file)
@@ -113,7 +114,7 @@ tests_by {meet} near c listed =
     (walk_by _ 16 (λ i far here. near.by records.group far _ here (group_few _ _ i)) c.groups first) (λ flips e at₂.
     by_then (flips.at + 22 * c.flips) largest (omega arith) (flips_of meet c listed flips) _
     (walk_by _ 22 (λ j far here. near.by records.flips far _ here (entry_few _ _ _ _ _ _)) c.flips flips) (λ end e at₃.
-    near.by records.answer_end largest _ end (either_way Fault (eqb c.total (sum_of c.costs c.groups)) (lit≤ tt) (lit≤ tt)) (omega arith))))
+    near.by records.answer_end largest _ end (either_way Fault (eqb c.total (sum_of c.costs c.groups)) tt (lit< tt, lit≤ tt)) (omega arith))))
 
 -- ---- the operations
 
@@ -124,7 +125,7 @@ answer_by file =
     either_way (By Few largest) (ltb 0 (left file c.at)) (near, (lit< tt, lit≤ tt)) near)
 
 -- The last test, of a list or an output that may be too short.
-room_by : (short : Bool) (p : Passed) → By Few largest p → By Few largest (onward p (judge (cond short 10 0) 0))
+room_by : (short : Bool) (p : Passed) → By Few largest p → By Few largest (onward p (judge (cond short (Some reason.Room) None) 0))
 unfolding judge
 room_by true (Ok c) b = (lit≤ tt, (lit< tt, lit≤ tt))
 room_by false (Ok c) b = b
@@ -139,7 +140,7 @@ unfolding write_tests
 write_by c listed room = room_by (ltb room (length_of c)) (tests as_given c listed) (tests_by given_near c listed)
 
 -- A refusal that comes back is one of the tests'.
-read_refused : {why : Refusal} (c : Content) (p : Passed) → verdict.Refused why ≡ (answered c p).verdict → Err why ≡ p
+read_refused : {why : Refusal} (c : Content) (p : Passed) → Err why ≡ answered c p → Err why ≡ p
 read_refused c (Ok here) e = cc
 read_refused c (Err other) e = cc
 
@@ -147,11 +148,11 @@ write_refused : {why : Refusal} (c : Content) (p : Passed) → Err why ≡ ended
 write_refused c (Ok here) e = cc
 write_refused c (Err other) e = cc
 
-pub reading_small : (file : List ℕ) (room : ℕ) {why : Refusal} → verdict.Refused why ≡ (reading file room).verdict → (why.place ≤ largest) × ((refusal_number why.reason) ≤ 15)
+pub reading_small : (file : List ℕ) (room : ℕ) {why : Refusal} → Err why ≡ reading file room → (why.place ≤ largest) × (refusal_number why.reason ≤ 15)
 unfolding reading
 reading_small file room e = let b = rw (← read_refused (content_in file) (read_tests file room) e) at (read_by file room) in (b.0, b.1.1)
 
-pub writing_small : (c : Content) (listed room : ℕ) {why : Refusal} → Err why ≡ writing c listed room → (why.place ≤ largest) × ((refusal_number why.reason) ≤ 15)
+pub writing_small : (c : Content) (listed room : ℕ) {why : Refusal} → Err why ≡ writing c listed room → (why.place ≤ largest) × (refusal_number why.reason ≤ 15)
 unfolding writing
 writing_small c listed room e = let b = rw (← write_refused c (write_tests c listed room) e) at (write_by c listed room) in (b.0, b.1.1)
 

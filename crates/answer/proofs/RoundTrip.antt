@@ -5,7 +5,7 @@ use mathlib.Core.Bool.{cond}
 use mathlib.Core.List.{List}
 use Prim.Native.Nat.{ℕ, ◌^◌, ◌≤◌, ◌<◌}
 use native.Mathlib.Omega.{arith}
-use lib.Dec.{ltb, lit<}
+use lib.Dec.{ltb}
 use lib.ListN.{length, take, replicate}
 use borrow.Author.Tests.{le-ltb, ltb-false}
 use Rattle.record.specs.Bytes.{over, File}
@@ -13,8 +13,6 @@ use Rattle.record.specs.declared.Cursor.{Cursor}
 use Rattle.record.proofs.Over.{length_over}
 use Rattle.record.proofs.Passing.{through}
 use Rattle.answer.specs.declared.Answer.{Answer}
-use Rattle.answer.specs.declared.Reading.{Reading}
-use Rattle.answer.specs.declared.Verdict.TheVariants as verdict
 use Rattle.answer.specs.Content.{Content, content_in, content_of, answer_of, file_of, length_of, flip_count}
 use Rattle.answer.specs.Lawful.{Lawful}
 use Rattle.answer.specs.Tests.{judge, as_given, tests}
@@ -29,18 +27,19 @@ use Rattle.answer.proofs.Meaning.{lawful_passes}
 use Rattle.answer.proofs.Taken.{taken_is_file}
 use Rattle.answer.proofs.Encoding.{file_taken, file_holds}
 use Rattle.answer.proofs.Accepted.{given_lawful, taken_lawful}
-use Rattle.std.specs.Prelude.{Result, Ok, Err}
+use Rattle.std.specs.Prelude.{Some, None, Result, Ok, Err}
+use Rattle.record.specs.declared.refusal.Reason.TheVariants as reason
 use Rattle.record.specs.declared.refusal.Refusal.{Refusal}
 use Rattle.record.specs.Records.{Passed}
 
 -- ---- the file of a content
 
-pub reads_back : {c : Content} → Lawful c → (room : ℕ) → c.flips ≤ room → reading (file_of c) room ≡ record { verdict = verdict.Taken; answer = answer_of c }
+pub reads_back : {c : Content} → Lawful c → (room : ℕ) → c.flips ≤ room → reading (file_of c) room ≡ Ok (answer_of c)
 unfolding reading read_tests judge
 reads_back {c} lawful room l =
     let holds = file_holds lawful in
     let few : flip_count (file_of c) ≤ room = rw (ap (λ (x : Content). x.flips) holds) l in
-    rw (← file_taken lawful, le-ltb _ _ few) (ap (λ (x : Content). record { verdict = verdict.Taken; answer = answer_of x }) holds)
+    rw (← file_taken lawful, le-ltb _ _ few) (ap (λ (x : Content). Ok (answer_of x)) holds)
 
 -- ---- reading what was written
 
@@ -53,7 +52,7 @@ pub reading_what_was_written : (a : Answer) (columns raised lowered : List ℕ) 
     → {out out' : List ℕ} {size : ℕ} → Writes (content_of a columns raised lowered) (listed columns raised lowered) out (Ok size) out'
     → (take size out' ≡ file_of (content_of a columns raised lowered))
     × (content_in (take size out') ≡ content_of a columns raised lowered)
-    × ((room : ℕ) → a.flips ≤ room → reading (take size out') room ≡ record { verdict = verdict.Taken; answer = answer_of (content_of a columns raised lowered) })
+    × ((room : ℕ) → a.flips ≤ room → reading (take size out') room ≡ Ok (answer_of (content_of a columns raised lowered)))
 unfolding writing write_tests
 reading_what_was_written a columns raised lowered t s fits {out} {out'} {size} w =
     let c = content_of a columns raised lowered in
@@ -66,9 +65,14 @@ reading_what_was_written a columns raised lowered t s fits {out} {out'} {size} w
 -- ---- writing what was read
 
 -- A reading that is taken passed its tests.
-pub took : (c : Content) (p : Passed) → (answered c p).verdict ≡ verdict.Taken → (here : Cursor) × (Ok here ≡ p)
+pub took : (c : Content) (p : Passed) {a : Answer} → answered c p ≡ Ok a → (here : Cursor) × (Ok here ≡ p)
 took c (Ok here) e = (here, refl)
 took c (Err why) e = absurd (let z : ◌≡◌ {A = ℕ} 0 1 = cc in omega arith)
+
+-- Its value is the content's.
+value_is : (p : Passed) (a : Answer) (c : Content) {here : Cursor} → Ok here ≡ p → answered c p ≡ Ok a → a ≡ answer_of c
+value_is (Ok there) a c here e = cc
+value_is (Err why) a c here e = cc
 
 -- The value and the list of a content hold that content.
 content_back : {c : Content} → Lawful c → (columns raised lowered : List ℕ) → content_of (answer_of c) (over c.columns 0 columns) (over c.raised 0 raised) (over c.lowered 0 lowered) ≡ c
@@ -87,43 +91,44 @@ content_back {c} lawful columns raised lowered =
     }
 
 -- What a reading that took a file left.
-record Left (file columns raised lowered : List ℕ) (r : Reading) (columns' raised' lowered' : List ℕ) : Type 0 where
+record Left (file columns raised lowered : List ℕ) (a : Answer) (columns' raised' lowered' : List ℕ) : Type 0 where
   next : Cursor
   passed : Ok next ≡ file_tests file
   roomy : flip_count file ≤ listed columns raised lowered
-  answer_is : r.answer ≡ answer_of (content_in file)
+  answer_is : a ≡ answer_of (content_in file)
   columns_are : columns' ≡ over (content_in file).columns 0 columns
   raised_are : raised' ≡ over (content_in file).raised 0 raised
   lowered_are : lowered' ≡ over (content_in file).lowered 0 lowered
 
-left : {file columns raised lowered : List ℕ} {r : Reading} {columns' raised' lowered' : List ℕ} → Reads file columns raised lowered r columns' raised' lowered' → r.verdict ≡ verdict.Taken
-    → Left file columns raised lowered r columns' raised' lowered'
+left : {file columns raised lowered : List ℕ} {r : Result Answer Refusal} {a : Answer} {columns' raised' lowered' : List ℕ} → Reads file columns raised lowered r columns' raised' lowered' → r ≡ Ok a
+    → Left file columns raised lowered a columns' raised' lowered'
 unfolding reading read_tests
-left {file} {columns} {raised} {lowered} {r} reads t =
+left {file} {columns} {raised} {lowered} {a = a} reads t =
     let room = listed columns raised lowered in
-    let (here, p) = took (content_in file) (read_tests file room) (sym (ap (λ (x : Reading). x.verdict) reads.answers) ∙ t) in
+    let given : answered (content_in file) (read_tests file room) ≡ Ok a = sym reads.answers ∙ t in
+    let (here, p) = took (content_in file) (read_tests file room) given in
     let (last, passed, j) = through (file_tests file) p in
-    let (none, same) = through_judge (cond (ltb room (flip_count file)) 10 0) 0 last j in
+    let (none, same) = through_judge (cond (ltb room (flip_count file)) (Some reason.Room) None) 0 last j in
     record {
       next = last;
       passed = passed;
-      roomy = ltb-false _ _ (unless (ltb room (flip_count file)) 10 0 (lit< tt) none).0;
-      answer_is = ap (λ (x : Reading). x.answer) reads.answers ∙ rw (← p);
+      roomy = ltb-false _ _ (unless (ltb room (flip_count file)) reason.Room None none).0;
+      answer_is = value_is _ a (content_in file) p given;
       columns_are = reads.columns_after ∙ rw t;
       raised_are = reads.raised_after ∙ rw t;
       lowered_are = reads.lowered_after ∙ rw t;
     }
 
-module _ {file columns raised lowered : List ℕ} {r : Reading} {columns' raised' lowered' : List ℕ} (f : File file)
-    (reads : Reads file columns raised lowered r columns' raised' lowered') (t : r.verdict ≡ verdict.Taken) where
-  abbrev read : Left file columns raised lowered r columns' raised' lowered'
+module _ {file columns raised lowered : List ℕ} {r : Result Answer Refusal} {a : Answer} {columns' raised' lowered' : List ℕ} (f : File file)
+    (reads : Reads file columns raised lowered r columns' raised' lowered') (t : r ≡ Ok a) where
+  abbrev read : Left file columns raised lowered a columns' raised' lowered'
   read = left reads t
 
   abbrev lawful : Lawful (content_in file)
   lawful = taken_lawful file read.passed f
 
   -- What reading left holds the file's content.
-  pub read_content : content_of r.answer columns' raised' lowered' ≡ content_in file
+  pub read_content : content_of a columns' raised' lowered' ≡ content_in file
   read_content = rw (read.answer_is, read.columns_are, read.raised_are, read.lowered_are) (content_back lawful columns raised lowered)
 
   enough : flip_count file ≤ listed columns' raised' lowered'
@@ -136,7 +141,7 @@ module _ {file columns raised lowered : List ℕ} {r : Reading} {columns' raised
       omega arith
 
   -- "Writing what was read gives back the file."
-  pub writing_what_was_read : {out out' : List ℕ} {w : Result ℕ Refusal} → length file ≤ length out → Writes (content_of r.answer columns' raised' lowered') (listed columns' raised' lowered') out w out'
+  pub writing_what_was_read : {out out' : List ℕ} {w : Result ℕ Refusal} → length file ≤ length out → Writes (content_of a columns' raised' lowered') (listed columns' raised' lowered') out w out'
       → (w ≡ Ok (length file)) × (out' ≡ over file 0 out)
   writing_what_was_read {out} {out'} {w} room writes =
       let c = content_in file in

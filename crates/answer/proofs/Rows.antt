@@ -9,38 +9,40 @@ use native.Mathlib.Omega.{arith}
 use lib.Dec.{eqb, ltb}
 use lib.ListN.{get_or}
 use borrow.Author.Tests.{lt-ltb, le-ltb, eq-eqb, ne_eqb}
+use Rattle.std.specs.Prelude.{Some, None}
 use Rattle.taxa.specs.Sets.{◌∩◌, ◌∪◌, within, count, low, all}
+use Rattle.record.specs.declared.refusal.Reason.TheVariants as reason
 use Rattle.answer.specs.Rules.{counted, head_fault, follows, placed, compatible, compatible_all, group_fault, kept, floor_of, entry_fault}
 
 module _ (n m groups flips listed : ℕ) where
-  pub no_taxa : n ≡ 0 → 3 ≡ head_fault n m groups flips listed
+  pub no_taxa : n ≡ 0 → Some reason.TaxonCount ≡ head_fault n m groups flips listed
   unfolding head_fault
   no_taxa h = rw (eq-eqb _ _ h)
 
-  pub many_taxa : n ≢ 0 → 64 < n → 3 ≡ head_fault n m groups flips listed
+  pub many_taxa : n ≢ 0 → 64 < n → Some reason.TaxonCount ≡ head_fault n m groups flips listed
   unfolding head_fault
   many_taxa h l = rw (ne_eqb _ _ h, lt-ltb _ _ l)
 
   module _ (h : n ≢ 0) (l : n ≤ 64) where
-    pub many_columns : 256 < m → 4 ≡ head_fault n m groups flips listed
+    pub many_columns : 256 < m → Some reason.ColumnCount ≡ head_fault n m groups flips listed
     unfolding head_fault
     many_columns k = rw (ne_eqb _ _ h, le-ltb _ _ l, lt-ltb _ _ k)
 
     module _ (k : m ≤ 256) where
-      pub not_counted : counted n groups ≡ false → 12 ≡ head_fault n m groups flips listed
+      pub not_counted : counted n groups ≡ false → Some reason.Groups ≡ head_fault n m groups flips listed
       unfolding head_fault
       not_counted g = rw (ne_eqb _ _ h, le-ltb _ _ l, le-ltb _ _ k, g)
 
       module _ (g : counted n groups ≡ true) where
-        pub many_flips : m < flips → 13 ≡ head_fault n m groups flips listed
+        pub many_flips : m < flips → Some reason.Flips ≡ head_fault n m groups flips listed
         unfolding head_fault
         many_flips f = rw (ne_eqb _ _ h, le-ltb _ _ l, le-ltb _ _ k, g, lt-ltb _ _ f)
 
-        pub few_listed : flips ≤ m → listed < flips → 13 ≡ head_fault n m groups flips listed
+        pub few_listed : flips ≤ m → listed < flips → Some reason.Flips ≡ head_fault n m groups flips listed
         unfolding head_fault
         few_listed f e = rw (ne_eqb _ _ h, le-ltb _ _ l, le-ltb _ _ k, g, le-ltb _ _ f, lt-ltb _ _ e)
 
-        pub head_kept : flips ≤ m → flips ≤ listed → 0 ≡ head_fault n m groups flips listed
+        pub head_kept : flips ≤ m → flips ≤ listed → None ≡ head_fault n m groups flips listed
         unfolding head_fault
         head_kept f e = rw (ne_eqb _ _ h, le-ltb _ _ l, le-ltb _ _ k, g, le-ltb _ _ f, le-ltb _ _ e)
 
@@ -92,25 +94,25 @@ module _ (taxa : List ℕ) (x k : ℕ) (l : 0 < k) where
   last_compatible e = one_less taxa x k l ∙ rw e (and_true (compatible_all taxa x (k - 1)))
 
 module _ (n : ℕ) (taxa : List ℕ) (i : ℕ) where
-  pub group_unknown : within (get_or taxa i 0) (all n) ≡ false → 6 ≡ group_fault n taxa i
+  pub group_unknown : within (get_or taxa i 0) (all n) ≡ false → Some reason.UnknownTaxon ≡ group_fault n taxa i
   unfolding group_fault
   group_unknown w = rw w
 
   module _ (w : within (get_or taxa i 0) (all n) ≡ true) where
-    pub small : count 64 (get_or taxa i 0) ≤ 1 → 12 ≡ group_fault n taxa i
+    pub small : count 64 (get_or taxa i 0) ≤ 1 → Some reason.Groups ≡ group_fault n taxa i
     unfolding group_fault
     small s = rw (w, le-ltb _ _ s)
 
     module _ (s : 1 < count 64 (get_or taxa i 0)) where
-      pub misplaced : placed n taxa i ≡ false → 12 ≡ group_fault n taxa i
+      pub misplaced : placed n taxa i ≡ false → Some reason.Groups ≡ group_fault n taxa i
       unfolding group_fault
       misplaced p = rw (w, lt-ltb _ _ s, p)
 
-      pub crossing : placed n taxa i ≡ true → compatible_all taxa (get_or taxa i 0) i ≡ false → 12 ≡ group_fault n taxa i
+      pub crossing : placed n taxa i ≡ true → compatible_all taxa (get_or taxa i 0) i ≡ false → Some reason.Groups ≡ group_fault n taxa i
       unfolding group_fault
       crossing p a = rw (w, lt-ltb _ _ s, p, a)
 
-      pub group_kept : placed n taxa i ≡ true → compatible_all taxa (get_or taxa i 0) i ≡ true → 0 ≡ group_fault n taxa i
+      pub group_kept : placed n taxa i ≡ true → compatible_all taxa (get_or taxa i 0) i ≡ true → None ≡ group_fault n taxa i
       unfolding group_fault
       group_kept p a = rw (w, lt-ltb _ _ s, p, a)
 
@@ -133,20 +135,20 @@ module _ (m floor column raised lowered : ℕ) where
     some_flip e = rw (lt-ltb _ _ h, le-ltb _ _ f, ne_eqb _ _ e)
 
 module _ (n m floor column raised lowered : ℕ) where
-  pub raised_unknown : within raised (all n) ≡ false → 6 ≡ entry_fault n m floor column raised lowered
+  pub raised_unknown : within raised (all n) ≡ false → Some reason.UnknownTaxon ≡ entry_fault n m floor column raised lowered
   unfolding entry_fault
   raised_unknown r = rw r
 
-  pub lowered_unknown : within raised (all n) ≡ true → within lowered (all n) ≡ false → 6 ≡ entry_fault n m floor column raised lowered
+  pub lowered_unknown : within raised (all n) ≡ true → within lowered (all n) ≡ false → Some reason.UnknownTaxon ≡ entry_fault n m floor column raised lowered
   unfolding entry_fault
   lowered_unknown r l = rw (r, l)
 
   module _ (r : within raised (all n) ≡ true) (l : within lowered (all n) ≡ true) where
-    pub flips_broken : kept m floor column raised lowered ≡ false → 13 ≡ entry_fault n m floor column raised lowered
+    pub flips_broken : kept m floor column raised lowered ≡ false → Some reason.Flips ≡ entry_fault n m floor column raised lowered
     unfolding entry_fault
     flips_broken k = rw (r, l, k)
 
-    pub flips_kept : kept m floor column raised lowered ≡ true → 0 ≡ entry_fault n m floor column raised lowered
+    pub flips_kept : kept m floor column raised lowered ≡ true → None ≡ entry_fault n m floor column raised lowered
     unfolding entry_fault
     flips_kept k = rw (r, l, k)
 

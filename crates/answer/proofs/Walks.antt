@@ -5,25 +5,24 @@ use Prim.Native.Nat.{ℕ, zero, suc, ◌+◌, ◌*◌, ◌≤◌, ◌<◌}
 use native.Mathlib.Nat.{mul-suc}
 use native.Mathlib.Numerals.{add-one}
 use native.Mathlib.Omega.{arith}
-use lib.Dec.{eqb}
 use lib.ListN.{get_or, length, set, replicate}
 use borrow.Author.Count.{below_more}
-use borrow.Author.Tests.{eqb-true, eq-eqb}
 use Rattle.taxa.proofs.Sums.{sum_≡}
 use Rattle.record.specs.Bytes.{number_at, over}
 use Rattle.record.specs.Records as records
 use Rattle.record.specs.Records.{record_of, step, onward, Passed}
 use Rattle.record.specs.declared.Cursor.{Cursor}
+use Rattle.record.specs.declared.refusal.Reason.{Reason}
 use Rattle.record.specs.declared.refusal.Refusal.{Refusal}
 use Rattle.record.proofs.Steps.{Held, held}
-use Rattle.record.proofs.Passing.{where_holds, through_step, through}
+use Rattle.record.proofs.Passing.{through_step, through}
 use Rattle.answer.specs.Content.{padded, numbers_of, taxa_in, costs_in, columns_from, raised_from, lowered_from}
 use Rattle.answer.specs.Rules.{head_fault, group_fault, floor_of, entry_fault, sum_of}
 use Rattle.answer.specs.Tests.{judge, in_file, as_given, walk, head_test, group_test, entry_test, flips_test}
 use Rattle.answer.proofs.Runs.{entry, length_entries, at_front, store_next}
 use Rattle.answer.proofs.Rows.{group_same}
 use Rattle.answer.proofs.Kept.{HeadKept, head_keeps}
-use Rattle.std.specs.Prelude.{Ok, Err}
+use Rattle.std.specs.Prelude.{Option, Some, None, Ok, Err}
 
 module _ (one : ℕ → Cursor → Passed) (from : Cursor) where
   pub walk_none : Ok from ≡ walk one 0 from
@@ -103,17 +102,18 @@ walk_passes one size (suc k) h at =
     rw (← walk_passes one size k (λ i b. h i (omega arith)) at, ← h k (omega arith) (at + size * k)) (ap (λ (a : ℕ). Ok (record { at = a })) (omega (arith, mul-suc size k)))
 
 -- A record with no fault passes.
-pub no_fault : {fault : ℕ} (place at : ℕ) {next : Cursor} → fault ≡ 0 → next.at ≡ at → Ok next ≡ judge fault place (record { at = at })
+pub no_fault : {fault : Option Reason} (place at : ℕ) {next : Cursor} → fault ≡ None → next.at ≡ at → Ok next ≡ judge fault place (record { at = at })
 unfolding judge
-no_fault {fault} place at {next} none e = rw (eq-eqb fault 0 none) (λ i. Ok (record { at = e i }))
+no_fault place at none e = rw none (λ i. Ok (record { at = e i }))
 
-pub through_judge : (fault place : ℕ) (c : Cursor) {next : Cursor} → Ok next ≡ judge fault place c → (fault ≡ 0) × (c ≡ next)
+pub through_judge : (fault : Option Reason) (place : ℕ) (c : Cursor) {next : Cursor} → Ok next ≡ judge fault place c → (fault ≡ None) × (c ≡ next)
 unfolding judge
-through_judge fault place c e = let (none, e') = where_holds (eqb fault 0) _ _ e in (eqb-true _ _ none, cc)
+through_judge None place c e = (refl, cc)
+through_judge (Some why) place c e = absurd (let z : ◌≡◌ {A = ℕ} 0 1 = cc in omega arith)
 
 -- A record that was met in a file and passed: no fault, and it stands there.
-pub met : (file : List ℕ) (kind : ℕ) (here : Cursor) (fault place : ℕ) {next : Cursor} → Ok next ≡ in_file file kind here (judge fault place)
-    → (fault ≡ 0) × Held file here.at (record_of kind) (here.at + 4) next
+pub met : (file : List ℕ) (kind : ℕ) (here : Cursor) (fault : Option Reason) (place : ℕ) {next : Cursor} → Ok next ≡ in_file file kind here (judge fault place)
+    → (fault ≡ None) × Held file here.at (record_of kind) (here.at + 4) next
 met file kind here fault place {next} e =
     let (at, c, found, j) = through_step (step file here.at (record_of kind)) e in
     let (none, same) = through_judge fault place c j in
@@ -121,12 +121,12 @@ met file kind here fault place {next} e =
 
 module _ (file : List ℕ) where
   pub entry_met : (n m floor column raised lowered : ℕ) (here : Cursor) {next : Cursor} → Ok next ≡ entry_test (in_file file) n m floor column raised lowered here
-      → (entry_fault n m floor column raised lowered ≡ 0) × Held file here.at (record_of records.flips) (here.at + 4) next
+      → (entry_fault n m floor column raised lowered ≡ None) × Held file here.at (record_of records.flips) (here.at + 4) next
   unfolding entry_test
   entry_met n m floor column raised lowered here e = met file records.flips here (entry_fault n m floor column raised lowered) here.at e
 
   pub group_met : (n : ℕ) (taxa : List ℕ) (i : ℕ) (here : Cursor) {next : Cursor} → Ok next ≡ group_test (in_file file) n taxa i here
-      → (group_fault n taxa i ≡ 0) × Held file here.at (record_of records.group) (here.at + 4) next
+      → (group_fault n taxa i ≡ None) × Held file here.at (record_of records.group) (here.at + 4) next
   unfolding group_test
   group_met n taxa i here e = met file records.group here (group_fault n taxa i) here.at e
 
@@ -198,14 +198,14 @@ module _ (file : List ℕ) where
 
 -- ---- records met as given
 
-pub given_group : (n : ℕ) (taxa : List ℕ) (i : ℕ) (here : Cursor) {next : Cursor} → Ok next ≡ group_test as_given n taxa i here → (group_fault n taxa i ≡ 0) × (next.at ≡ here.at + 16)
+pub given_group : (n : ℕ) (taxa : List ℕ) (i : ℕ) (here : Cursor) {next : Cursor} → Ok next ≡ group_test as_given n taxa i here → (group_fault n taxa i ≡ None) × (next.at ≡ here.at + 16)
 unfolding group_test
 given_group n taxa i here e =
     let (none, same) = through_judge (group_fault n taxa i) here.at (record { at = here.at + 4 + 12 }) e in
     (none, sym (ap (λ (c : Cursor). c.at) same) ∙ omega arith)
 
 pub given_entry : (n m floor column raised lowered : ℕ) (here : Cursor) {next : Cursor} → Ok next ≡ entry_test as_given n m floor column raised lowered here
-    → (entry_fault n m floor column raised lowered ≡ 0) × (next.at ≡ here.at + 22)
+    → (entry_fault n m floor column raised lowered ≡ None) × (next.at ≡ here.at + 22)
 unfolding entry_test
 given_entry n m floor column raised lowered here e =
     let (none, same) = through_judge (entry_fault n m floor column raised lowered) here.at (record { at = here.at + 4 + 18 }) e in

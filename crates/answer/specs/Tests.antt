@@ -1,15 +1,17 @@
 -- The tests of reading, which "writing makes on what it is given, placed as in the file": record by record, each at its place.
-use Rattle.std.specs.Prelude.{cond, List, ℕ, zero, suc, ◌+◌, eqb, get_or, Ok, Err}
+use Rattle.std.specs.Prelude.{List, ℕ, zero, suc, ◌+◌, get_or, Option, Some, None, Ok, Err}
 use Rattle.record.specs.Records as records
 use Rattle.record.specs.Records.{record_of, payload, step, judged, onward, Passed}
 use Rattle.record.specs.Refusals.{refused}
 use Rattle.record.specs.declared.Cursor.{Cursor}
+use Rattle.record.specs.declared.refusal.Reason.{Reason}
 use Rattle.answer.specs.Content.{Content}
 use Rattle.answer.specs.Rules.{head_fault, group_fault, floor_of, entry_fault, total_fault}
 
--- A record that was judged at its place: refused by a number, or passed on 0.
-unfoldable pub judge : ℕ → ℕ → Cursor → Passed
-judge fault place next = cond (eqb fault 0) (Ok next) (Err (refused fault place))
+-- A record that was judged at its place: refused for its fault, or passed if it has none.
+unfoldable pub judge : Option Reason → ℕ → Cursor → Passed
+judge None place next = Ok next
+judge (Some reason) place next = Err (refused reason place)
 
 -- How a record of a kind is met before it is judged.
 abbrev pub Meet : Type 0

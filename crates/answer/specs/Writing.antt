@@ -1,17 +1,18 @@
 -- The operation "write an answer": "the tests of reading on what it is given, placed as in the file, then 10".
-use Rattle.std.specs.Prelude.{cond, List, ℕ, ◌≡◌, ltb, length, Result, Ok, Err}
+use Rattle.std.specs.Prelude.{◌≡◌, cond, List, ℕ, ltb, length, Some, None, Result, Ok, Err}
 use Rattle.record.specs.Bytes.{over}
 use Rattle.record.specs.Records.{onward, Passed}
+use Rattle.record.specs.Refusals.{refusal_number}
+use Rattle.record.specs.declared.refusal.Reason.TheVariants.{Room}
+use Rattle.record.specs.declared.refusal.Refusal.{Refusal}
 use Rattle.answer.specs.declared.Answer.{Answer}
 use Rattle.answer.specs.Content.{Content, content_of, file_of, length_of}
 use Rattle.answer.specs.Tests.{judge, as_given, tests}
 use Rattle.answer.specs.Reading.{listed}
-use Rattle.record.specs.declared.refusal.Refusal.{Refusal}
-use Rattle.record.specs.Refusals.{refusal_number}
 
 -- All tests of writing; `listed` is how many entries the flip list has, `room` how many bytes the output.
 unfoldable pub write_tests : Content → ℕ → ℕ → Passed
-write_tests c listed room = onward (tests as_given c listed) (judge (cond (ltb room (length_of c)) 10 0) 0)
+write_tests c listed room = onward (tests as_given c listed) (judge (cond (ltb room (length_of c)) (Some Room) None) 0)
 
 -- The length where the tests passed, and else the refusal.
 abbrev pub ended : ℕ → Passed → Result ℕ Refusal

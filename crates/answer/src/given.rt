@@ -6,7 +6,8 @@ ghost use Rattle.answer.specs.Tests.{as_given, walk, group_test, flips_test, tes
 
 use super::Answer;
 use super::rules::{entry_fault, group_fault, head_fault, judge, total_fault};
-use record::{Cursor, Passed, Record};
+use record::refusal::Refusal;
+use record::{Cursor, Record};
 
 // Past a record of a kind.
 fn past(here: Cursor, kind: u16) -> Cursor
@@ -19,21 +20,15 @@ fn past(here: Cursor, kind: u16) -> Cursor
     }
 }
 
-fn given_groups(n: u16, taxa: &[u64; 63], groups: u16, from: Cursor) -> Passed
+fn given_groups(n: u16, taxa: &[u64; 63], groups: u16, from: Cursor) -> Result<Cursor, Refusal>
     requires { (n ≤ 64) × (groups ≤ 63) × (from.at ≡ 16) }
     ensures { result ≡ walk (group_test as_given n taxa.now) groups from }
 {
     let mut here = from;
-    let mut i: usize = 0;
-    while i < groups as usize {
-        let passed = judge(group_fault(n, taxa, i), here.at, past(here, Record::GROUP));
-        let Passed::At(next) = passed else {
-            return passed;
-        };
-        here = next;
-        i += 1;
+    for i in 0..groups as usize {
+        here = judge(group_fault(n, taxa, i), here.at, past(here, Record::GROUP))?;
     }
-    Passed::At(here)
+    Ok(here)
 }
 
 fn given_flips(
@@ -44,25 +39,19 @@ fn given_flips(
     lowered: &[u64],
     flips: u16,
     from: Cursor,
-) -> Passed
+) -> Result<Cursor, Refusal>
     requires n_bound { (n ≤ 64) × (m ≤ 256) × (flips ≤ 256) × (from.at ≤ 1024) }
     requires flips_in_bounds { (flips ≤ length columns.now) × (flips ≤ length raised.now) × (flips ≤ length lowered.now) }
     ensures { result ≡ walk (flips_test as_given n m columns.now raised.now lowered.now) flips from }
 {
     let mut here = from;
     let mut floor: u64 = 0;
-    let mut j: usize = 0;
-    while j < flips as usize {
+    for j in 0..flips as usize {
         let fault = entry_fault(n, m, floor, columns[j], raised[j], lowered[j]);
-        let passed = judge(fault, here.at, past(here, Record::FLIPS));
-        let Passed::At(next) = passed else {
-            return passed;
-        };
+        here = judge(fault, here.at, past(here, Record::FLIPS))?;
         floor = columns[j] + 1;
-        here = next;
-        j += 1;
     }
-    Passed::At(here)
+    Ok(here)
 }
 
 // Every test; `entries` is how many the lent list has.
@@ -72,21 +61,14 @@ pub fn pass_given(
     raised: &[u64],
     lowered: &[u64],
     entries: usize,
-) -> Passed
+) -> Result<Cursor, Refusal>
     requires { (entries ≤ length columns.now) × (entries ≤ length raised.now) × (entries ≤ length lowered.now) }
     ensures { result ≡ tests as_given (content_of answer columns.now raised.now lowered.now) entries }
 {
     let fault = head_fault(answer.n, answer.m, answer.groups, answer.flips, entries);
-    let head = judge(fault, 0, past(Cursor::start(), Record::ANSWER_HEAD));
-    let Passed::At(first) = head else {
-        return head;
-    };
-    let taxa = answer.taxa;
-    let groups = given_groups(answer.n, &taxa, answer.groups, first);
-    let Passed::At(flips) = groups else {
-        return groups;
-    };
-    let listed = given_flips(
+    let first = judge(fault, 0, past(Cursor::start(), Record::ANSWER_HEAD))?;
+    let flips = given_groups(answer.n, &answer.taxa, answer.groups, first)?;
+    let end = given_flips(
         answer.n,
         answer.m,
         columns,
@@ -94,13 +76,9 @@ pub fn pass_given(
         lowered,
         answer.flips,
         flips,
-    );
-    let Passed::At(end) = listed else {
-        return listed;
-    };
-    let costs = answer.costs;
+    )?;
     judge(
-        total_fault(answer.total, &costs, answer.groups),
+        total_fault(answer.total, &answer.costs, answer.groups),
         end.at,
         past(end, Record::ANSWER_END),
     )

@@ -8,15 +8,13 @@ pub mod reader;
 mod rules;
 mod writer;
 
-ghost use Rattle.std.specs.Prelude.{◌≡◌, min};
-ghost use Rattle.answer.specs.Content.{answer_of};
-ghost use Rattle.answer.specs.Reading.{empty, Reads};
+ghost use Rattle.answer.specs.Reading.{Reads};
 ghost use Rattle.answer.specs.Writing.{WritesLists};
 
 use given::pass_given;
 use reader::{answer_in, fill, pass_file};
 use record::number::u16_at;
-use record::{Passed, Refusal};
+use record::refusal::{Reason, Refusal};
 use writer::put_answer;
 
 // What an answer holds beside its flips, in file widths; the groups have 63 places, those past the last 0. As C lays it out, so that C can lend one.
@@ -32,78 +30,26 @@ pub struct Answer {
     pub costs: [u32; 63],
 }
 
-#[derive(Clone, Copy)]
-pub enum Verdict {
-    Taken,
-    Refused(Refusal),
-}
-
-// What reading answers: the verdict, and the value that was read.
-#[derive(Clone, Copy)]
-pub struct Reading {
-    pub verdict: Verdict,
-    pub answer: Answer,
-}
-
-// What writing answers: how many bytes were written, or the refusal.
-#[derive(Clone, Copy)]
-pub enum Written {
-    Length(usize),
-    Refused(Refusal),
-}
-
-fn refused(why: Refusal) -> Reading
-    ensures { result ≡ record { verdict = Verdict.Refused why; answer = answer_of empty } }
-{
-    let taxa = [0u64; 63];
-    let costs = [0u32; 63];
-    let answer = Answer {
-        n: 0,
-        m: 0,
-        groups: 0,
-        flips: 0,
-        total: 0,
-        taxa,
-        costs,
-    };
-    let verdict = Verdict::Refused(why);
-    Reading { verdict, answer }
-}
-
-fn lesser(a: usize, b: usize) -> usize
-    ensures { result ≡ min a b }
-{
-    if a <= b { a } else { b }
-}
-
-// How many entries a list in three parts has.
-fn least(a: usize, b: usize, c: usize) -> usize
-    ensures { result ≡ min a (min b c) }
-{
-    lesser(a, lesser(b, c))
-}
-
-// The operation "read an answer": first all tests, then the lent list is filled.
-pub fn read(file: &[u8], columns: &mut [u64], raised: &mut [u64], lowered: &mut [u64]) -> Reading
+// The operation "read an answer": first all tests, then the lent list is filled. The list stands in three parts, since a caller's entries may be laid out
+// in any way; crate entries has document 01's form of it.
+pub fn read(
+    file: &[u8],
+    columns: &mut [u64],
+    raised: &mut [u64],
+    lowered: &mut [u64],
+) -> Result<Answer, Refusal>
     ensures { Reads file.now columns.old raised.old lowered.old result
         columns.new raised.new lowered.new }
 {
-    let passed = pass_file(file);
-    let Passed::At(_) = passed else {
-        return refused(passed.refusal());
-    };
+    pass_file(file)?;
     let flips = u16_at(file, 10) as usize;
-    if least(columns.len(), raised.len(), lowered.len()) < flips {
-        return refused(Refusal {
-            number: 10,
-            place: 0,
-        });
+    let room = columns.len().min(raised.len().min(lowered.len()));
+    if room < flips {
+        return Err(Reason::Room.at(0));
     }
     let groups = u16_at(file, 8) as usize;
     fill(file, 16 + 16 * groups, flips, columns, raised, lowered);
-    let answer = answer_in(file);
-    let verdict = Verdict::Taken;
-    Reading { verdict, answer }
+    Ok(answer_in(file))
 }
 
 // The operation "write an answer": first all tests, then the records one after the other.
@@ -113,21 +59,15 @@ pub fn write(
     raised: &[u64],
     lowered: &[u64],
     out: &mut [u8],
-) -> Written
+) -> Result<usize, Refusal>
     ensures { WritesLists answer columns.now raised.now lowered.now out.old result out.new }
 {
-    let entries = least(columns.len(), raised.len(), lowered.len());
-    let passed = pass_given(answer, columns, raised, lowered, entries);
-    let Passed::At(_) = passed else {
-        return Written::Refused(passed.refusal());
-    };
+    let entries = columns.len().min(raised.len().min(lowered.len()));
+    pass_given(answer, columns, raised, lowered, entries)?;
     let size = 20 + 16 * answer.groups as usize + 22 * answer.flips as usize;
     if out.len() < size {
-        return Written::Refused(Refusal {
-            number: 10,
-            place: 0,
-        });
+        return Err(Reason::Room.at(0));
     }
     put_answer(out, answer, columns, raised, lowered);
-    Written::Length(size)
+    Ok(size)
 }

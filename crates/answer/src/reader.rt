@@ -8,15 +8,16 @@ ghost use Rattle.answer.specs.Reading.{file_tests};
 use super::Answer;
 use super::rules::{entry_fault, group_fault, head_fault, judge, total_fault};
 use record::number::{u16_at, u32_at, u64_at};
-use record::{Cursor, Passed, Record, Step};
+use record::refusal::Refusal;
+use record::{Cursor, Record, Step};
 
-fn pass_head(file: &[u8]) -> Passed
+fn pass_head(file: &[u8]) -> Result<Cursor, Refusal>
     ensures { result ≡ head_test (in_file file.now) (number_at 2 file.now 4) (number_at 2 file.now 6)
         (group_count file.now) (flip_count file.now) (flip_count file.now) }
 {
     let step = Cursor::start().read(file, Record::of(Record::ANSWER_HEAD));
     let Step::Payload(_, next) = step else {
-        return Passed::Refused(step.refusal());
+        return step.past();
     };
     let flips = u16_at(file, 10);
     let fault = head_fault(
@@ -30,68 +31,57 @@ fn pass_head(file: &[u8]) -> Passed
 }
 
 // The groups read so far stand in `taxa`, to judge the next one against.
-fn pass_groups(file: &[u8], n: u16, groups: u16, from: Cursor) -> Passed
+fn pass_groups(file: &[u8], n: u16, groups: u16, from: Cursor) -> Result<Cursor, Refusal>
     requires { (n ≤ 64) × (groups ≤ 63) × (from.at ≡ 16) }
     ensures { result ≡ walk (group_test (in_file file.now) n (taxa_in file.now groups)) groups from }
 {
     let mut taxa = [0u64; 63];
     let mut here = from;
-    let mut i: usize = 0;
-    while i < groups as usize {
+    for i in 0..groups as usize {
         let step = here.read(file, Record::of(Record::GROUP));
         let Step::Payload(at, next) = step else {
-            return Passed::Refused(step.refusal());
+            return step.past();
         };
         taxa[i] = u64_at(file, at);
-        let passed = judge(group_fault(n, &taxa, i), here.at, next);
-        let Passed::At(moved) = passed else {
-            return passed;
-        };
-        here = moved;
-        i += 1;
+        here = judge(group_fault(n, &taxa, i), here.at, next)?;
     }
-    Passed::At(here)
+    Ok(here)
 }
 
 // One flips record; `floor` is the least column that those before it leave.
-fn pass_entry(file: &[u8], n: u16, m: u16, floor: u64, here: Cursor) -> Passed
+fn pass_entry(file: &[u8], n: u16, m: u16, floor: u64, here: Cursor) -> Result<Cursor, Refusal>
     requires { n ≤ 64 }
     ensures { result ≡ entry_test (in_file file.now) n m floor (number_at 2 file.now (here.at + 4))
         (number_at 8 file.now (here.at + 6)) (number_at 8 file.now (here.at + 14)) here }
 {
     let step = here.read(file, Record::of(Record::FLIPS));
     let Step::Payload(at, next) = step else {
-        return Passed::Refused(step.refusal());
+        return step.past();
     };
     let fault = entry_fault(
         n,
         m,
         floor,
-        u16_at(file, at) as u64,
+        u64::from(u16_at(file, at)),
         u64_at(file, at + 2),
         u64_at(file, at + 10),
     );
     judge(fault, here.at, next)
 }
 
-fn pass_flips(file: &[u8], n: u16, m: u16, flips: u16, from: Cursor) -> Passed
+fn pass_flips(file: &[u8], n: u16, m: u16, flips: u16, from: Cursor) -> Result<Cursor, Refusal>
     requires { n ≤ 64 }
     ensures { result ≡ walk (flips_test (in_file file.now) n m (columns_from file.now from.at flips)
         (raised_from file.now from.at flips) (lowered_from file.now from.at flips)) flips from }
 {
     let mut here = from;
     let mut floor: u64 = 0;
-    let mut j: u16 = 0;
-    while j < flips {
-        let passed = pass_entry(file, n, m, floor, here);
-        let Passed::At(moved) = passed else {
-            return passed;
-        };
-        floor = u16_at(file, here.at + 4) as u64 + 1;
-        here = moved;
-        j += 1;
+    for _ in 0..flips {
+        let next = pass_entry(file, n, m, floor, here)?;
+        floor = u64::from(u16_at(file, here.at + 4)) + 1;
+        here = next;
     }
-    Passed::At(here)
+    Ok(here)
 }
 
 // The taxa of the first groups, and 0 in the places past them.
@@ -100,10 +90,8 @@ fn taxa_in(file: &[u8], groups: usize) -> [u64; 63]
     ensures { result ≡ padded (taxa_in file.now groups) }
 {
     let mut taxa = [0u64; 63];
-    let mut i: usize = 0;
-    while i < groups {
+    for i in 0..groups {
         taxa[i] = u64_at(file, 20 + 16 * i);
-        i += 1;
     }
     taxa
 }
@@ -114,48 +102,34 @@ fn costs_in(file: &[u8], groups: usize) -> [u32; 63]
     ensures { result ≡ padded (costs_in file.now groups) }
 {
     let mut costs = [0u32; 63];
-    let mut i: usize = 0;
-    while i < groups {
+    for i in 0..groups {
         costs[i] = u32_at(file, 28 + 16 * i);
-        i += 1;
     }
     costs
 }
 
-fn pass_end(file: &[u8], groups: u16, here: Cursor) -> Passed
+fn pass_end(file: &[u8], groups: u16, here: Cursor) -> Result<Cursor, Refusal>
     requires { (groups ≤ 63) × (16 + 16 * groups ≤ length file.now) }
     ensures { result ≡ end_test (in_file file.now) (number_at 4 file.now 12) (costs_in file.now groups) groups here }
 {
     let step = here.read(file, Record::of(Record::ANSWER_END));
     let Step::Payload(_, next) = step else {
-        return Passed::Refused(step.refusal());
+        return step.past();
     };
     let costs = costs_in(file, groups as usize);
     judge(total_fault(u32_at(file, 12), &costs, groups), here.at, next)
 }
 
 // Every test on the file.
-pub fn pass_file(file: &[u8]) -> Passed
+pub fn pass_file(file: &[u8]) -> Result<Cursor, Refusal>
     ensures { result ≡ file_tests file.now }
 {
-    let head = pass_head(file);
-    let Passed::At(first) = head else {
-        return head;
-    };
+    let first = pass_head(file)?;
     let n = u16_at(file, 4);
     let groups = u16_at(file, 8);
-    let passed = pass_groups(file, n, groups, first);
-    let Passed::At(flips) = passed else {
-        return passed;
-    };
-    let entries = pass_flips(file, n, u16_at(file, 6), u16_at(file, 10), flips);
-    let Passed::At(end) = entries else {
-        return entries;
-    };
-    let last = pass_end(file, groups, end);
-    let Passed::At(after) = last else {
-        return last;
-    };
+    let flips = pass_groups(file, n, groups, first)?;
+    let end = pass_flips(file, n, u16_at(file, 6), u16_at(file, 10), flips)?;
+    let after = pass_end(file, groups, end)?;
     after.nothing_after(file)
 }
 
@@ -193,12 +167,10 @@ pub fn fill(
     ensures raised_after { raised.new ≡ over (raised_from file.now first flips) 0 raised.old }
     ensures lowered_after { lowered.new ≡ over (lowered_from file.now first flips) 0 lowered.old }
 {
-    let mut j: usize = 0;
-    while j < flips {
+    for j in 0..flips {
         let at = first + 22 * j;
-        columns[j] = u16_at(file, at + 4) as u64;
+        columns[j] = u64::from(u16_at(file, at + 4));
         raised[j] = u64_at(file, at + 6);
         lowered[j] = u64_at(file, at + 14);
-        j += 1;
     }
 }

@@ -1,22 +1,20 @@
-// The rules of an answer, for reading and for writing: the number of the first refusal that a record meets, or 0.
+// The rules of an answer, for reading and for writing: why a record is refused, by the first rule that it breaks.
 ghost use Rattle.std.specs.Prelude.{◌≡◌, ◌<◌, ◌≤◌, ◌+◌};
 ghost use Rattle.answer.specs.Rules as rules;
 ghost use Rattle.answer.specs.Tests as tests;
 
-use record::{Cursor, Passed, Refusal};
+use record::Cursor;
+use record::refusal::{Reason, Refusal};
 use taxa::{all, common, size, subset, union};
 
 // A record judged at its place.
-pub fn judge(fault: u8, place: usize, next: Cursor) -> Passed
+pub fn judge(fault: Option<Reason>, place: usize, next: Cursor) -> Result<Cursor, Refusal>
     ensures { result ≡ tests.judge fault place next }
 {
-    if fault == 0 {
-        return Passed::At(next);
+    match fault {
+        None => Ok(next),
+        Some(reason) => Err(reason.at(place)),
     }
-    Passed::Refused(Refusal {
-        number: fault,
-        place,
-    })
 }
 
 // Whether the head may count so many groups.
@@ -33,28 +31,28 @@ fn counted(n: u16, groups: u16) -> bool
 }
 
 // `listed` is how many entries the flip list has.
-pub fn head_fault(n: u16, m: u16, groups: u16, flips: u16, listed: usize) -> u8
+pub fn head_fault(n: u16, m: u16, groups: u16, flips: u16, listed: usize) -> Option<Reason>
     ensures { result ≡ rules.head_fault n m groups flips listed }
 {
     if n == 0 {
-        return 3;
+        return Some(Reason::TaxonCount);
     }
     if 64 < n {
-        return 3;
+        return Some(Reason::TaxonCount);
     }
     if 256 < m {
-        return 4;
+        return Some(Reason::ColumnCount);
     }
     if !counted(n, groups) {
-        return 12;
+        return Some(Reason::Groups);
     }
     if m < flips {
-        return 13;
+        return Some(Reason::Flips);
     }
     if listed < flips as usize {
-        return 13;
+        return Some(Reason::Flips);
     }
-    0
+    None
 }
 
 // Whether group x may stand right after group y.
@@ -79,7 +77,7 @@ fn placed(n: u16, taxa: &[u64; 63], i: usize) -> bool
 {
     let it = taxa[i];
     if i == 0 {
-        return it == all(n as u32);
+        return it == all(u32::from(n));
     }
     follows(taxa[i - 1], it)
 }
@@ -97,47 +95,45 @@ fn compatible(x: u64, y: u64) -> bool
     common(x, y) == 0
 }
 
-// Whether x is so with each of the first k groups, from the last of them down.
+// Whether x is so with each of the first k groups.
 fn compatible_all(taxa: &[u64; 63], x: u64, k: usize) -> bool
     requires { k ≤ 63 }
     ensures { result ≡ rules.compatible_all taxa.now x k }
 {
-    let mut left = k;
-    while left > 0 {
-        if !compatible(taxa[left - 1], x) {
+    for i in 0..k {
+        if !compatible(taxa[i], x) {
             return false;
         }
-        left -= 1;
     }
     true
 }
 
 // Group i, judged against those before it.
-pub fn group_fault(n: u16, taxa: &[u64; 63], i: usize) -> u8
+pub fn group_fault(n: u16, taxa: &[u64; 63], i: usize) -> Option<Reason>
     requires { (n ≤ 64) × (i < 63) }
     ensures { result ≡ rules.group_fault n taxa.now i }
 {
     let it = taxa[i];
-    if !subset(it, all(n as u32)) {
-        return 6;
+    if !subset(it, all(u32::from(n))) {
+        return Some(Reason::UnknownTaxon);
     }
     if size(it) <= 1 {
-        return 12;
+        return Some(Reason::Groups);
     }
     if !placed(n, taxa, i) {
-        return 12;
+        return Some(Reason::Groups);
     }
     if !compatible_all(taxa, it, i) {
-        return 12;
+        return Some(Reason::Groups);
     }
-    0
+    None
 }
 
 // Whether a flipped column keeps its rules; `floor` is the least that the columns before it leave.
 fn kept(m: u16, floor: u64, column: u64, raised: u64, lowered: u64) -> bool
     ensures { result ≡ rules.kept m floor column raised lowered }
 {
-    if m as u64 <= column {
+    if u64::from(m) <= column {
         return false;
     }
     if column < floor {
@@ -149,28 +145,21 @@ fn kept(m: u16, floor: u64, column: u64, raised: u64, lowered: u64) -> bool
     common(raised, lowered) == 0
 }
 
-pub fn entry_fault(n: u16, m: u16, floor: u64, column: u64, raised: u64, lowered: u64) -> u8
+pub fn entry_fault(n: u16, m: u16, floor: u64, column: u64, raised: u64, lowered: u64) -> Option<Reason>
     requires { n ≤ 64 }
     ensures { result ≡ rules.entry_fault n m floor column raised lowered }
 {
-    let known = all(n as u32);
+    let known = all(u32::from(n));
     if !subset(raised, known) {
-        return 6;
+        return Some(Reason::UnknownTaxon);
     }
     if !subset(lowered, known) {
-        return 6;
+        return Some(Reason::UnknownTaxon);
     }
     if !kept(m, floor, column, raised, lowered) {
-        return 13;
+        return Some(Reason::Flips);
     }
-    0
-}
-
-// A cost, with room above it.
-fn wide(cost: u32) -> u64
-    ensures { (result ≡ cost) × (result < 4294967296) }
-{
-    cost as u64
+    None
 }
 
 // The sum of the first k costs: 63 of 4 bytes, so it fits 8.
@@ -179,21 +168,19 @@ fn sum_of(costs: &[u32; 63], k: usize) -> u64
     ensures { result ≡ rules.sum_of costs.now k }
 {
     let mut sum: u64 = 0;
-    let mut i = 0;
-    while i < k {
-        sum += wide(costs[i]);
-        i += 1;
+    for i in 0..k {
+        sum += u64::from(costs[i]);
     }
     sum
 }
 
-pub fn total_fault(total: u32, costs: &[u32; 63], groups: u16) -> u8
+pub fn total_fault(total: u32, costs: &[u32; 63], groups: u16) -> Option<Reason>
     requires { groups ≤ 63 }
     ensures { result ≡ rules.total_fault total costs.now groups }
 {
-    if total as u64 == sum_of(costs, groups as usize) {
-        0
+    if u64::from(total) == sum_of(costs, groups as usize) {
+        None
     } else {
-        14
+        Some(Reason::Total)
     }
 }

@@ -49,12 +49,8 @@ fn put_groups(out: &mut [u8], taxa: &[u64; 63], costs: &[u32; 63], groups: usize
     requires { (groups ≤ 63) × (16 * groups ≤ length out.old) }
     ensures { out.new ≡ over (run (group_record taxa.now costs.now) groups) 0 out.old }
 {
-    let mut i: usize = 0;
-    let mut at: usize = 0;
-    while i < groups {
-        put_group(&mut out[at..], taxa[i], costs[i]);
-        i += 1;
-        at += 16;
+    for i in 0..groups {
+        put_group(&mut out[16 * i..], taxa[i], costs[i]);
     }
 }
 
@@ -64,12 +60,8 @@ fn put_flips(out: &mut [u8], columns: &[u64], raised: &[u64], lowered: &[u64], f
     requires by_index { (j : ℕ) → j < flips → get_or columns.now j 0 < 65536 }
     ensures { out.new ≡ over (run (flips_record columns.now raised.now lowered.now) flips) 0 out.old }
 {
-    let mut j: usize = 0;
-    let mut at: usize = 0;
-    while j < flips {
-        put_entry(&mut out[at..], columns[j] as u16, raised[j], lowered[j]);
-        j += 1;
-        at += 22;
+    for j in 0..flips {
+        put_entry(&mut out[22 * j..], columns[j] as u16, raised[j], lowered[j]);
     }
 }
 
@@ -81,8 +73,6 @@ pub fn put_answer(out: &mut [u8], answer: Answer, columns: &[u64], raised: &[u64
     ensures { out.new
         ≡ over (file_of (content_of answer columns.now raised.now lowered.now)) 0 out.old }
 {
-    let taxa = answer.taxa;
-    let costs = answer.costs;
     let groups = answer.groups as usize;
     let flips = answer.flips as usize;
     let first = 16 + 16 * groups;
@@ -95,7 +85,7 @@ pub fn put_answer(out: &mut [u8], answer: Answer, columns: &[u64], raised: &[u64
         answer.flips,
         answer.total,
     );
-    put_groups(&mut out[16..], &taxa, &costs, groups);
+    put_groups(&mut out[16..], &answer.taxa, &answer.costs, groups);
     put_flips(&mut out[first..], columns, raised, lowered, flips);
     put_end(&mut out[end..]);
 }

@@ -1,47 +1,4 @@
--- `answer::write` meets its contract: the tests and the room decide, and only then is the file written.
-use mathlib.Core.Path.{◌≡◌, sym, ap, ◌∙◌}
-use mathlib.Core.List.{List}
-use Prim.Native.Nat.{ℕ}
-use Rattle.record.specs.Records.{passed_refusal, Passed}
-use Rattle.answer.specs.declared.Answer.{Answer}
-use Rattle.answer.specs.Content.{content_of}
-use Rattle.answer.specs.Tests.{as_given, tests}
-use Rattle.answer.specs.Reading.{listed}
-use Rattle.answer.proofs.Outcomes.{given_refused, no_output_room, written_out, given_head_kept, column_fits}
-use native.Mathlib.Omega.{arith}
 use Rattle.answer.proofs.write.Goals as goal
-use Rattle.std.specs.Prelude.{Err}
-
--- What the tests said, of all entries that are listed.
-tested : (a : Answer) (columns raised lowered : List ℕ) (entries : ℕ) (r : Passed) → entries ≡ listed columns raised lowered
-    → r ≡ tests as_given (content_of a columns raised lowered) entries → r ≡ tests as_given (content_of a columns raised lowered) (listed columns raised lowered)
-tested a columns raised lowered entries r all e = e ∙ ap (tests as_given (content_of a columns raised lowered)) all
-
-pub returns-in_default : goal.returns-in_default
-returns-in_default c =
-    let s = c.args in
-    let t = tested s.answer s.columns.now s.raised.now s.lowered.now _ _ c.least-entries.ensures c.pass_given-passed.ensures in
-    given_refused _ _ _ (ap Err (c.refusal.ensures ∙ ap passed_refusal c.in_default.is) ∙ sym c.in_default.is ∙ t)
 
 pub returns-then-out-size : goal.returns-then-out-size
-returns-then-out-size c =
-    let s = c.args in
-    let t = tested s.answer s.columns.now s.raised.now s.lowered.now _ _ c.least-entries.ensures c.pass_given-passed.ensures in
-    no_output_room _ _ _ (sym c.in-At.is ∙ t) (omega arith)
-
-pub put_answer-requires : goal.put_answer-requires
-put_answer-requires c =
-    let s = c.args in
-    let t = tested s.answer s.columns.now s.raised.now s.lowered.now _ _ c.least-entries.ensures c.pass_given-passed.ensures in
-    let k = given_head_kept _ _ s.out.now (sym c.in-At.is ∙ t) in
-    record {
-      groups_bound = (omega (arith, k.few, k.fewer), omega arith);
-      flips_in_bounds = (omega (arith, k.all_listed), omega (arith, k.all_listed), omega (arith, k.all_listed));
-      by_index = column_fits s.answer s.columns.now s.raised.now s.lowered.now _ (sym c.in-At.is ∙ t);
-    }
-
-pub returns : goal.returns
-returns c =
-    let s = c.args in
-    let t = tested s.answer s.columns.now s.raised.now s.lowered.now _ _ c.least-entries.ensures c.pass_given-passed.ensures in
-    written_out _ _ _ (sym c.in-At.is ∙ t) (omega arith) c.put_answer.ensures
+returns-then-out-size c = ?

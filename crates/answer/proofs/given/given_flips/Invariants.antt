@@ -7,7 +7,4 @@ use Rattle.answer.proofs.given.given_flips.Given as goal
 use Rattle.std.specs.Prelude.{Ok}
 
 abbrev pub invariant-loop-j : goal.invariant-loop-j
-invariant-loop-j l = (l.j ≤ l.flips) × (l.here.at ≡ l.initial.here.at + 22 * l.j) × (l.floor ≡ floor_of l.columns l.j) × (Ok l.here ≡ walk (flips_test as_given l.n l.m l.columns l.raised l.lowered) l.j l.initial.here)
-
-abbrev pub decreases-loop-j : goal.decreases-loop-j
-decreases-loop-j l = l.flips - l.j
+invariant-loop-j l = (l.here.at ≡ l.initial.here.at + 22 * l.j) × (l.floor ≡ floor_of l.columns l.j) × (Ok l.here ≡ walk (flips_test as_given l.n l.m l.columns l.raised l.lowered) l.j l.initial.here)

@@ -6,7 +6,4 @@ use Rattle.answer.proofs.given.given_groups.Given as goal
 use Rattle.std.specs.Prelude.{Ok}
 
 abbrev pub invariant-loop-i : goal.invariant-loop-i
-invariant-loop-i l = (l.i ≤ l.groups) × (l.here.at ≡ 16 + 16 * l.i) × (Ok l.here ≡ walk (group_test as_given l.n l.taxa) l.i l.initial.here)
-
-abbrev pub decreases-loop-i : goal.decreases-loop-i
-decreases-loop-i l = l.groups - l.i
+invariant-loop-i l = (l.here.at ≡ 16 + 16 * l.i) × (Ok l.here ≡ walk (group_test as_given l.n l.taxa) l.i l.initial.here)

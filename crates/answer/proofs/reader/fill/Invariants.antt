@@ -8,13 +8,9 @@ use Rattle.answer.proofs.reader.fill.Given as goal
 
 abbrev pub invariant-loop-j : goal.invariant-loop-j
 invariant-loop-j l =
-    (l.j ≤ l.flips)
-    × (length l.columns ≡ length l.initial.columns)
+    (length l.columns ≡ length l.initial.columns)
     × (length l.raised ≡ length l.initial.raised)
     × (length l.lowered ≡ length l.initial.lowered)
     × (l.columns ≡ over (columns_from l.file l.first l.j) 0 l.initial.columns)
     × (l.raised ≡ over (raised_from l.file l.first l.j) 0 l.initial.raised)
     × (l.lowered ≡ over (lowered_from l.file l.first l.j) 0 l.initial.lowered)
-
-abbrev pub decreases-loop-j : goal.decreases-loop-j
-decreases-loop-j l = l.flips - l.j

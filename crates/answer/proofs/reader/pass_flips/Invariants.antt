@@ -13,8 +13,5 @@ use Rattle.record.specs.Records.{Passed}
 abbrev pub one : List ℕ → ℕ → ℕ → ℕ → Cursor → ℕ → Cursor → Passed
 one file n m flips from = flips_test (in_file file) n m (columns_from file from.at flips) (raised_from file from.at flips) (lowered_from file from.at flips)
 
-abbrev pub invariant-loop-j : goal.invariant-loop-j
-invariant-loop-j l = (l.j ≤ l.flips) × (l.here.at ≡ l.initial.here.at + 22 * l.j) × (l.floor ≡ floor_of (columns_from l.file l.initial.here.at l.flips) l.j) × (Ok l.here ≡ walk (one l.file l.n l.m l.flips l.initial.here) l.j l.initial.here)
-
-abbrev pub decreases-loop-j : goal.decreases-loop-j
-decreases-loop-j l = l.flips - l.j
+abbrev pub invariant-loop : goal.invariant-loop
+invariant-loop l = (l.here.at ≡ l.initial.here.at + 22 * l._) × (l.floor ≡ floor_of (columns_from l.file l.initial.here.at l.flips) l._) × (Ok l.here ≡ walk (one l.file l.n l.m l.flips l.initial.here) l._ l.initial.here)

@@ -9,7 +9,4 @@ use Rattle.answer.proofs.reader.pass_groups.Given as goal
 use Rattle.std.specs.Prelude.{Ok}
 
 abbrev pub invariant-loop-i : goal.invariant-loop-i
-invariant-loop-i l = (l.i ≤ l.groups) × (length l.initial.taxa ≡ 63) × (l.here.at ≡ 16 + 16 * l.i) × (l.taxa ≡ over (taxa_in l.file l.i) 0 l.initial.taxa) × (Ok l.here ≡ walk (group_test (in_file l.file) l.n (taxa_in l.file l.groups)) l.i l.initial.here)
-
-abbrev pub decreases-loop-i : goal.decreases-loop-i
-decreases-loop-i l = l.groups - l.i
+invariant-loop-i l = (length l.initial.taxa ≡ 63) × (l.here.at ≡ 16 + 16 * l.i) × (l.taxa ≡ over (taxa_in l.file l.i) 0 l.initial.taxa) × (Ok l.here ≡ walk (group_test (in_file l.file) l.n (taxa_in l.file l.groups)) l.i l.initial.here)

@@ -7,7 +7,4 @@ use Rattle.answer.specs.Content.{taxa_in}
 use Rattle.answer.proofs.reader.taxa_in.Given as goal
 
 abbrev pub invariant-loop-i : goal.invariant-loop-i
-invariant-loop-i l = (l.i ≤ l.groups) × (length l.initial.taxa ≡ 63) × (l.taxa ≡ over (taxa_in l.file l.i) 0 l.initial.taxa)
-
-abbrev pub decreases-loop-i : goal.decreases-loop-i
-decreases-loop-i l = l.groups - l.i
+invariant-loop-i l = (length l.initial.taxa ≡ 63) × (l.taxa ≡ over (taxa_in l.file l.i) 0 l.initial.taxa)

@@ -1,12 +1,13 @@
--- `answer::rules::judge` meets its contract: 0 is passed, any other number refused.
-use borrow.Author.Tests.{eq-eqb, ne_eqb}
+-- `answer::rules::judge` meets its contract: no fault is passed, any other is refused.
+use mathlib.Core.Path.{ap}
 use Rattle.answer.specs.Tests.{judge}
 use Rattle.answer.proofs.rules.judge.Goals as goal
+use Rattle.std.specs.Prelude.{Err}
 
-pub returns-then-fault-eq0 : goal.returns-then-fault-eq0
+pub returns-in-None : goal.returns-in-None
 unfolding judge
-returns-then-fault-eq0 c = rw (eq-eqb _ _ c.if-fault-eq0.true)
+returns-in-None c = rw c.in-None.is
 
-pub returns : goal.returns
+pub returns-in-Some : goal.returns-in-Some
 unfolding judge
-returns c = rw (ne_eqb _ _ c.if-fault-eq0.false)
+returns-in-Some c = rw (c.in-Some.is, c.at.ensures)

@@ -5,7 +5,4 @@ use Rattle.answer.specs.Rules.{sum_of}
 use Rattle.answer.proofs.rules.sum_of.Given as goal
 
 abbrev pub invariant-loop-i : goal.invariant-loop-i
-invariant-loop-i l = (l.i ≤ l.k) × (l.sum ≡ sum_of l.costs l.i) × (l.sum ≤ 0xffff_ffff * l.i)
-
-abbrev pub decreases-loop-i : goal.decreases-loop-i
-decreases-loop-i l = l.k - l.i
+invariant-loop-i l = (l.sum ≡ sum_of l.costs l.i) × (l.sum ≤ 0xffff_ffff * l.i)

@@ -7,7 +7,4 @@ use Rattle.answer.specs.Content.{run, flips_record}
 use Rattle.answer.proofs.writer.put_flips.Given as goal
 
 abbrev pub invariant-loop-j : goal.invariant-loop-j
-invariant-loop-j l = (l.j ≤ l.flips) × (l.at ≡ 22 * l.j) × (length l.out ≡ length l.initial.out) × (l.out ≡ over (run (flips_record l.columns l.raised l.lowered) l.j) 0 l.initial.out)
-
-abbrev pub decreases-loop-j : goal.decreases-loop-j
-decreases-loop-j l = l.flips - l.j
+invariant-loop-j l = (length l.out ≡ length l.initial.out) × (l.out ≡ over (run (flips_record l.columns l.raised l.lowered) l.j) 0 l.initial.out)

@@ -7,7 +7,4 @@ use Rattle.answer.specs.Content.{run, group_record}
 use Rattle.answer.proofs.writer.put_groups.Given as goal
 
 abbrev pub invariant-loop-i : goal.invariant-loop-i
-invariant-loop-i l = (l.i ≤ l.groups) × (l.at ≡ 16 * l.i) × (length l.out ≡ length l.initial.out) × (l.out ≡ over (run (group_record l.taxa l.costs) l.i) 0 l.initial.out)
-
-abbrev pub decreases-loop-i : goal.decreases-loop-i
-decreases-loop-i l = l.groups - l.i
+invariant-loop-i l = (length l.out ≡ length l.initial.out) × (l.out ≡ over (run (group_record l.taxa l.costs) l.i) 0 l.initial.out)
