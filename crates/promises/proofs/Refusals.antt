@@ -41,11 +41,7 @@ pub refused_score : {matrix answer : List ℕ} {r : Result Sums Refusal} → sco
 refused_score {r = Ok it} x some = absurd (some refl)
 refused_score {r = Err why} x some = (refl, refl)
 
--- Reading, into three lists or into a list of entries: the value told is the empty one, 0 in each of its numbers and places.
-pub refused_reading : {r : Result Answer Refusal} → (reading.returned r).number ≢ 0 → (why : Refusal) × (r ≡ Err why) × ((reading.returned r).answer ≡ answer_of reading.empty)
-refused_reading {r = Ok a} some = absurd (some refl)
-refused_reading {r = Err why} some = (why, refl, refl)
-
+-- Reading: the value told is the empty one, 0 in each of its numbers and places.
 pub refused_read : {file cs us ds : List ℕ} {r : Result Answer Refusal} {cs' us' ds' : List ℕ} → reading.Reads file cs us ds r cs' us' ds' → (reading.returned r).number ≢ 0
     → ((reading.returned r).answer ≡ answer_of reading.empty) × (cs' ≡ cs) × (us' ≡ us) × (ds' ≡ ds)
 refused_read {r = Ok a} x some = absurd (some refl)
