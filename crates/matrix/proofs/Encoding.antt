@@ -10,6 +10,7 @@ use lib.Dec.{ltb, lit<}
 use lib.ListN.{length, take, drop, length-append, length-drop}
 use lib.Seq.{take_at}
 use borrow.Author.Tests.{ne_eqb}
+use Rattle.std.specs.Prelude.{Ok}
 use Rattle.taxa.specs.Sets.{all}
 use Rattle.taxa.proofs.Members.{set_fits, within_⊆}
 use Rattle.record.specs.Bytes.{number_at, bytes_of}
@@ -20,11 +21,9 @@ use Rattle.record.proofs.Numbers.{length_bytes, past, field_read}
 use Rattle.record.proofs.Steps.{held, content_stands, record_taken, none_after}
 use Rattle.matrix.specs.declared.Column.{Column}
 use Rattle.matrix.specs.Matrix.{Matrix, Merging, LegalMultiplicities, absent, given, Legal, LegalColumn, LegalColumns, none, one, head_bytes, multiplicity_bytes, column_bytes, columns_bytes, end_bytes, file_of, has_multiplicities, multiplicities_in, columns_at, column_at, columns_from, matrix_of}
-use Rattle.matrix.specs.Check.{head_passed, multiplicities_passed, column_passed, columns_passed, end_passed, checked}
+use Rattle.matrix.specs.Check.{head_passed, multiplicities_passed, column_passed, columns_passed, end_passed, checked, shape}
 use Rattle.matrix.proofs.Multiplying.{has_kind, multiplicities_there, columns_there, multiplicities_none, columns_none, given_bytes, merging_taken}
 use Rattle.matrix.proofs.Judging.{column_taken, head_taken, all_passed}
-use Rattle.std.specs.Prelude.{Ok}
-use Rattle.matrix.specs.Check.{shape}
 
 abbrev cursor : ℕ → Cursor
 cursor at = record { at = at }

@@ -7,17 +7,16 @@ use native.Mathlib.Numerals.{sub-one}
 use native.Mathlib.Omega.{arith}
 use mathlib.Core.List.{List}
 use borrow.Author.Tests.{lt-ltb, le-ltb, eq-eqb, ne_eqb}
+use Rattle.std.specs.Prelude.{Ok, Err}
 use Rattle.taxa.specs.Sets.{◌∩◌, within, all}
 use Rattle.record.specs.Bytes.{number_at}
 use Rattle.record.specs.Records.{onward, Passed}
 use Rattle.record.specs.Refusals.{refused}
 use Rattle.record.specs.declared.Cursor.{Cursor}
 use Rattle.record.specs.declared.refusal.Refusal.{Refusal}
-use Rattle.matrix.specs.declared.Column.{Column}
-use Rattle.matrix.specs.Check.{head_judged, head_passed, multiplicities_passed, column_judged, column_passed, columns_passed, end_passed, file_passed, checked}
-use Rattle.std.specs.Prelude.{Ok, Err}
-use Rattle.matrix.specs.Check.{shape}
 use Rattle.record.specs.declared.refusal.Reason.TheVariants as reason
+use Rattle.matrix.specs.declared.Column.{Column}
+use Rattle.matrix.specs.Check.{head_judged, head_passed, multiplicities_passed, column_judged, column_passed, columns_passed, end_passed, file_passed, checked, shape}
 
 module _ (n m : ℕ) (next : Cursor) where
   pub no_taxa : n ≡ 0 → Err (refused reason.TaxonCount 0) ≡ head_judged n m next

@@ -10,19 +10,19 @@ use native.Mathlib.Omega.{arith}
 use lib.Dec.{ltb, eqb}
 use lib.ListN.{length, get_or, take, drop}
 use borrow.Author.Tests.{lt-ltb, le-ltb, eq-eqb, eqb-true, ltb-true, ltb-false, not-false}
+use Rattle.std.specs.Prelude.{Ok, Err}
 use Rattle.taxa.specs.Sum.{sum}
 use Rattle.taxa.specs.Sets.{multiplicity, Multiplicities, Positive}
 use Rattle.taxa.proofs.Sums.{sum_≡, sum_tight, term_≤}
 use Rattle.record.specs.Bytes.{number_at}
 use Rattle.record.specs.Records as records
-use Rattle.record.specs.Records.{multiplicity_record, record_bytes}
+use Rattle.record.specs.Records.{multiplicity_record, record_bytes, Passed}
 use Rattle.record.specs.Refusals.{refused}
 use Rattle.record.specs.declared.Cursor.{Cursor}
+use Rattle.record.specs.declared.refusal.Reason.TheVariants as reason
 use Rattle.record.proofs.Passing.{neither, unless}
 use Rattle.matrix.specs.Matrix.{Matrix, Merging, LegalMultiplicities, absent, given, Legal, multiplicity_bytes, has_multiplicities, multiplicity_count, multiplicities_in, columns_at}
 use Rattle.matrix.specs.Check.{every, wrong, multiplicities_judged}
-use Rattle.std.specs.Prelude.{Ok, Err}
-use Rattle.record.specs.declared.refusal.Reason.TheVariants as reason
 
 -- A multiplicity of a list is the number there, whatever stands for one that is missing.
 pub at_multiplicity : (ms : List ℕ) (i d : ℕ) → i < length ms → multiplicity ms i ≡ get_or ms i d
@@ -97,7 +97,7 @@ module _ (ms : List ℕ) where
       multiplicities_taken l ne =
           rw (at_every (λ a. ltb 0 a) ms (λ i b. lt-ltb _ _ (some i b)), le-ltb _ _ l, never (every (λ a. eqb a 1) ms) (λ t. ne (each_one (λ i b. eqb-true _ _ (every_at (λ a. eqb a 1) ms t i b)))))
 
-  pub judged_multiplicities : (place : ℕ) (c : Cursor) {next : Cursor} → Ok next ≡ multiplicities_judged ms place c → Merging n ms × (Ok next ≡ Ok c)
+  pub judged_multiplicities : (place : ℕ) (c : Cursor) {next : Cursor} → Ok next ≡ multiplicities_judged ms place c → Merging n ms × ◌≡◌ {A = Passed} (Ok next) (Ok c)
   unfolding multiplicities_judged
   judged_multiplicities place c e =
       let (none, e') = unless (wrong ms) _ _ e in

@@ -9,11 +9,12 @@ use lib.Dec.{ltb, eqb}
 use lib.ListN.{length, take, drop, length-drop}
 use lib.Seq.{length-take-le}
 use borrow.Author.Tests.{ltb-false, eqb-true, eqb-false}
+use Rattle.std.specs.Prelude.{Ok}
 use Rattle.taxa.specs.Sets.{◌∩◌, ◌⊆◌, within}
 use Rattle.taxa.proofs.Members.{within_⊆}
 use Rattle.record.specs.Bytes.{number_at}
 use Rattle.record.specs.Records as records
-use Rattle.record.specs.Records.{record_of, multiplicity_record, step}
+use Rattle.record.specs.Records.{record_of, multiplicity_record, step, Passed}
 use Rattle.record.specs.declared.Cursor.{Cursor}
 use Rattle.record.proofs.Steps.{Held, held}
 use Rattle.record.proofs.Passing.{neither, unless, where_holds, through_step}
@@ -21,9 +22,8 @@ use Rattle.matrix.specs.declared.Column.{Column}
 use Rattle.matrix.specs.Matrix.{Merging, has_multiplicities, column_at}
 use Rattle.matrix.specs.Check.{head_judged, head_passed, multiplicities_passed, column_judged, column_passed}
 use Rattle.matrix.proofs.Multiplying.{judged_multiplicities}
-use Rattle.std.specs.Prelude.{Ok}
 
-same_cursor : {a c : Cursor} → Ok a ≡ Ok c → c ≡ a
+same_cursor : {a c : Cursor} → ◌≡◌ {A = Passed} (Ok a) (Ok c) → c ≡ a
 same_cursor e = cc
 
 pub record Head (file : List ℕ) (next : Cursor) : Type 0 where

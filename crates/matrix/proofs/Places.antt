@@ -6,6 +6,7 @@ use Prim.Native.Nat.{ℕ, zero, suc, ◌+◌, ◌*◌, ◌≤◌, ◌<◌}
 use native.Mathlib.Omega.{arith}
 use lib.Dec.{ltb, eqb, lit<, lit≤}
 use lib.ListN.{take, drop}
+use Rattle.std.specs.Prelude.{Result, Ok, Err}
 use Rattle.taxa.specs.Sets.{◌∩◌, within, all}
 use Rattle.record.specs.Bytes.{number_at}
 use Rattle.record.specs.Records.{record_of, multiplicity_record, left, judged, nothing_after, step, Passed}
@@ -13,13 +14,12 @@ use Rattle.record.specs.Records as records
 use Rattle.record.specs.declared.Cursor.{Cursor}
 use Rattle.record.specs.declared.Record.{Record}
 use Rattle.record.specs.declared.refusal.Refusal.{Refusal}
+use Rattle.record.specs.Refusals.{refusal_number}
 use Rattle.record.proofs.Steps.{either_way}
 use Rattle.record.proofs.Places.{By, by_later, by_onward, by_step}
 use Rattle.matrix.proofs.Passing.{head}
 use Rattle.matrix.specs.Matrix.{has_multiplicities, column_at}
 use Rattle.matrix.specs.Check.{head_judged, head_passed, wrong, multiplicities_judged, multiplicities_passed, column_judged, column_passed, columns_passed, end_passed, body_passed, file_passed, answered, checked}
-use Rattle.std.specs.Prelude.{Result, Ok, Err}
-use Rattle.record.specs.Refusals.{refusal_number}
 use Rattle.matrix.specs.declared.Shape.{Shape}
 
 -- The check's numbers.
@@ -98,12 +98,12 @@ module _ (file : List ℕ) where
 
   abbrev Small : Result Shape Refusal → Type 0
   Small (Ok it) = Unit {0}
-  Small (Err why) = (why.place ≤ largest) × (0 < refusal_number why.reason) × ((refusal_number why.reason) ≤ 21) × (8 < (refusal_number why.reason) → (refusal_number why.reason) ≡ 21)
+  Small (Err why) = (why.place ≤ largest) × (0 < refusal_number why.reason) × (refusal_number why.reason ≤ 21) × (8 < refusal_number why.reason → refusal_number why.reason ≡ 21)
 
   small : (n m : ℕ) (p : Passed) → By Number largest p → Small (answered n m p)
   small n m (Ok here) b = tt
   small n m (Err why) b = (b.0, b.1.0, b.1.1, b.1.2)
 
-  pub refusal_small : {why : Refusal} → Err why ≡ checked file → (why.place ≤ largest) × (0 < refusal_number why.reason) × ((refusal_number why.reason) ≤ 21) × (8 < (refusal_number why.reason) → (refusal_number why.reason) ≡ 21)
+  pub refusal_small : {why : Refusal} → Err why ≡ checked file → (why.place ≤ largest) × (0 < refusal_number why.reason) × (refusal_number why.reason ≤ 21) × (8 < refusal_number why.reason → refusal_number why.reason ≡ 21)
   unfolding checked
   refusal_small e = rw (← e) at (small (number_at 2 file 4) (number_at 2 file 6) (file_passed file) all_by)

@@ -10,6 +10,7 @@ use lib.ListN.{length, get_or, take, drop, drop_of_length-le, take-append-drop}
 use lib.Seq.{drop-drop}
 use borrow.Author.Tests.{ltb-false}
 use lib.Dec.{ltb}
+use Rattle.std.specs.Prelude.{Ok, Err}
 use Rattle.taxa.specs.Sets.{all}
 use Rattle.record.specs.Bytes.{number_at, bytes_of, File}
 use Rattle.record.specs.Records as records
@@ -19,13 +20,12 @@ use Rattle.record.proofs.Numbers.{at_lt, read_then}
 use Rattle.record.proofs.Steps.{Held, held, record_bytes_lem}
 use Rattle.record.proofs.Passing.{unless, through_step, through}
 use Rattle.matrix.specs.declared.Column.{Column}
+use Rattle.matrix.specs.declared.Shape.{Shape}
 use Rattle.matrix.specs.Matrix.{Legal, LegalMultiplicities, absent, given, LegalColumn, LegalColumns, none, one, head_bytes, multiplicity_bytes, column_bytes, columns_bytes, end_bytes, file_of, has_multiplicities, multiplicities_in, columns_at, column_at, column_in, columns_from, matrix_of}
 use Rattle.matrix.specs.inner.Planes.{Multiplied}
-use Rattle.matrix.specs.Check.{head_passed, multiplicities_passed, column_passed, columns_passed, end_passed, file_passed, answered, checked}
+use Rattle.matrix.specs.Check.{head_passed, multiplicities_passed, column_passed, columns_passed, end_passed, file_passed, answered, checked, shape}
 use Rattle.matrix.proofs.Passing.{Head, head, There, there, not_there, Passing, passing}
 use Rattle.matrix.proofs.Multiplying.{multiplicities_there, columns_there, multiplicities_none, columns_none, before_columns, given_bytes, legal_fit}
-use Rattle.std.specs.Prelude.{Ok, Err}
-use Rattle.matrix.specs.Check.{shape}
 
 module _ {file : List ℕ} (f : File file) where
   -- ---- the records that were passed stand in the file
@@ -157,7 +157,7 @@ module _ {file : List ℕ} (f : File file) where
       record { second = second; first = first; end = end; head_read = hd; multiplicities_read = ms; columns_read = cols; end_read = rw cols.moves at (ended end e) }
 
   all_read : {n m : ℕ} (p : Passed) → Ok (shape n m) ≡ answered taxa_count column_count p → (last : Cursor) × (Ok last ≡ p) × (taxa_count ≡ n) × (column_count ≡ m)
-  all_read (Ok last) e = (last, refl, cc, cc)
+  all_read (Ok last) e = let same : shape _ _ ≡ shape taxa_count column_count = cc in (last, refl, sym (ap (λ (s : Shape). s.n) same), sym (ap (λ (s : Shape). s.m) same))
   all_read (Err why) e = absurd (let z : ◌≡◌ {A = ℕ} 0 1 = cc in omega arith)
 
   readings : {n m : ℕ} → Ok (shape n m) ≡ checked file → Readings × (taxa_count ≡ n) × (column_count ≡ m)

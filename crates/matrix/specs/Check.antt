@@ -5,13 +5,13 @@ use Rattle.taxa.specs.Sets.{◌∩◌, within, multiplicity, all}
 use Rattle.record.specs.Bytes.{number_at}
 use Rattle.record.specs.Records as records
 use Rattle.record.specs.Records.{record_of, multiplicity_record, step, judged, onward, nothing_after, Passed}
+use Rattle.record.specs.Refusals.{refused, refusal_number}
 use Rattle.record.specs.declared.Cursor.{Cursor}
-use Rattle.matrix.specs.declared.Column.{Column}
-use Rattle.matrix.specs.Matrix.{column_at, has_multiplicities}
 use Rattle.record.specs.declared.refusal.Refusal.{Refusal}
 use Rattle.record.specs.declared.refusal.Reason.TheVariants as reason
-use Rattle.record.specs.Refusals.{refused, refusal_number}
+use Rattle.matrix.specs.declared.Column.{Column}
 use Rattle.matrix.specs.declared.Shape.{Shape}
+use Rattle.matrix.specs.Matrix.{column_at, has_multiplicities}
 
 -- "n is 0 or above 64" (3), "m above 256" (4), at the head.
 unfoldable pub head_judged : ℕ → ℕ → Cursor → Passed

@@ -5,6 +5,7 @@ use mathlib.Core.List.{List}
 use Prim.Native.Nat.{ℕ, ◌+◌, ◌≤◌}
 use native.Mathlib.Omega.{arith}
 use lib.ListN.{length}
+use Rattle.std.specs.Prelude.{Ok, Err}
 use Rattle.grammar.specs.Columns.{Bytes}
 use Rattle.record.specs.Records as records
 use Rattle.record.specs.Records.{finds}
@@ -15,7 +16,6 @@ use Rattle.names.specs.Check.{name_passed, end_passed, listed_from, listed, chec
 use Rattle.names.proofs.Walking.{names_more, place_more, length_names}
 use Rattle.names.proofs.Passing.{passing}
 use Rattle.names.proofs.Turns.{listed_step}
-use Rattle.std.specs.Prelude.{Ok, Err}
 
 -- After `count` names the file comes to what is left to read after them.
 pub record Reached (file : List ℕ) (here : Cursor) (count : ℕ) : Type 0 where

@@ -9,6 +9,7 @@ use lib.Dec.{lit<}
 use lib.ListN.{length, drop, length-drop}
 use lib.Seq.{take_at}
 use borrow.Author.Tests.{eq-eqb, ne_eqb}
+use Rattle.std.specs.Prelude.{Ok}
 use Rattle.grammar.specs.Columns.{Bytes}
 use Rattle.grammar.specs.Text.{Name, only, more}
 use Rattle.grammar.specs.Limits.{is_in, Distinct, next}
@@ -27,7 +28,6 @@ use Rattle.names.proofs.Spelling.{marked_letter, letter_small, name_some, name_s
 use Rattle.names.proofs.Lists.{list_none, list_first}
 use Rattle.names.proofs.Judging.{name_taken, name_read}
 use Rattle.names.proofs.Turns.{listed_step}
-use Rattle.std.specs.Prelude.{Ok}
 
 abbrev cursor : ℕ → Cursor
 cursor at = record { at = at }

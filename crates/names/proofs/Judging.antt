@@ -3,6 +3,7 @@ use mathlib.Core.Path.{◌≡◌}
 use mathlib.Core.Bool.{true, false}
 use mathlib.Core.List.{List}
 use Prim.Native.Nat.{ℕ}
+use Rattle.std.specs.Prelude.{Ok, Err}
 use Rattle.grammar.specs.Columns.{Bytes}
 use Rattle.grammar.specs.Limits.{is_in}
 use Rattle.record.specs.Records.{varying_step}
@@ -10,10 +11,9 @@ use Rattle.record.specs.Refusals.{refused}
 use Rattle.record.specs.declared.Cursor.{Cursor}
 use Rattle.record.specs.declared.refusal.Refusal.{Refusal}
 use Rattle.record.specs.declared.Step.TheVariants as step
+use Rattle.record.specs.declared.refusal.Reason.TheVariants as reason
 use Rattle.names.specs.Names.{name_at}
 use Rattle.names.specs.Check.{any_name, spelt, name_judged, name_passed}
-use Rattle.std.specs.Prelude.{Ok, Err}
-use Rattle.record.specs.declared.refusal.Reason.TheVariants as reason
 
 module _ (before : List Bytes) (n : Bytes) (place : ℕ) (next : Cursor) where
   pub wrong_byte : spelt n ≡ false → Err (refused reason.Misfit place) ≡ name_judged before n place next

@@ -8,11 +8,12 @@ use lib.Dec.{ltb, lit≤}
 use lib.ListN.{length, drop, length-drop}
 use lib.Seq.{length-take-le}
 use borrow.Author.Tests.{ltb-false}
+use Rattle.std.specs.Prelude.{Ok}
 use Rattle.grammar.specs.Columns.{Bytes}
 use Rattle.grammar.specs.Limits.{is_in}
 use Rattle.record.specs.Bytes.{number_at}
 use Rattle.record.specs.Records as records
-use Rattle.record.specs.Records.{record_of, left, step, varying_step, nothing_after}
+use Rattle.record.specs.Records.{record_of, left, step, varying_step, nothing_after, Passed}
 use Rattle.record.specs.declared.Cursor.{Cursor}
 use Rattle.record.proofs.Steps.{Held, held}
 use Rattle.record.proofs.Lengths.{sized, allowed_is, varying_held}
@@ -20,7 +21,6 @@ use Rattle.record.proofs.Passing.{unless, where_holds, through_step}
 use Rattle.names.specs.Names.{name_at}
 use Rattle.names.specs.inner.Places.{after}
 use Rattle.names.specs.Check.{any_name, spelt, name_judged, name_passed, end_passed}
-use Rattle.std.specs.Prelude.{Ok}
 
 -- The record of a name, 1 to 32 long, with no wrong byte and no repeat.
 pub record Passing (file : List ℕ) (before : List Bytes) (at : ℕ) (next : Cursor) : Type 0 where
@@ -30,7 +30,7 @@ pub record Passing (file : List ℕ) (before : List Bytes) (at : ℕ) (next : Cu
   pub letters : spelt (name_at file at) ≡ true
   pub new : is_in (name_at file at) before ≡ false
 
-same_cursor : {a c : Cursor} → Ok a ≡ Ok c → c ≡ a
+same_cursor : {a c : Cursor} → ◌≡◌ {A = Passed} (Ok a) (Ok c) → c ≡ a
 same_cursor e = cc
 
 judged_name : (before : List Bytes) (n : Bytes) (place : ℕ) (c : Cursor) {next : Cursor} → Ok next ≡ name_judged before n place c

@@ -7,6 +7,7 @@ use native.Mathlib.Omega.{arith}
 use lib.Dec.{ltb, lit<, lit≤}
 use lib.ListN.{length}
 use borrow.Author.Tests.{ltb-true}
+use Rattle.std.specs.Prelude.{Ok, Err}
 use Rattle.grammar.specs.Columns.{Bytes}
 use Rattle.grammar.specs.Limits.{is_in}
 use Rattle.record.specs.Bytes.{number_at, File}
@@ -17,21 +18,19 @@ use Rattle.record.specs.declared.Record.{Record}
 use Rattle.record.specs.declared.refusal.Refusal.{Refusal}
 use Rattle.record.specs.declared.Step.{Step}
 use Rattle.record.specs.declared.Step.TheVariants as step
+use Rattle.record.specs.declared.refusal.Reason.TheVariants as reason
+use Rattle.record.specs.Refusals.{refused, refusal_number}
 use Rattle.record.proofs.Steps.{EndsBy, step_ends, either_way}
 use Rattle.names.specs.Names.{name_at, list_length}
-use Rattle.names.specs.Check.{any_name, spelt, name_judged, name_passed, end_passed}
-use Rattle.names.specs.Check.{Listing, names, refusal, ended, goes_on, listed_in, listed, names_in, counted, checked}
+use Rattle.names.specs.Check.{any_name, spelt, name_judged, name_passed, end_passed, Listing, names, refusal, ended, goes_on, listed_in, listed, names_in, counted, checked}
 use Rattle.names.proofs.Lists.{length_list}
 use Rattle.names.proofs.Passing.{passing}
 use Rattle.names.proofs.Taken.{taken_is_file, taken_count}
-use Rattle.std.specs.Prelude.{Ok, Err}
-use Rattle.record.specs.declared.refusal.Reason.TheVariants as reason
-use Rattle.record.specs.Refusals.{refused, refusal_number}
 
 module _ (file : List ℕ) where
   -- A refusal at a place of the file or at its end, by one of the check's numbers.
   abbrev Placed : Refusal → Type 0
-  Placed why = (why.place ≤ length file) × (0 < refusal_number why.reason) × ((refusal_number why.reason) ≤ 18)
+  Placed why = (why.place ≤ length file) × (0 < refusal_number why.reason) × (refusal_number why.reason ≤ 18)
 
   -- If it is refused, it is there: a reading that keeps no values, and the whole.
   abbrev Told : Passed → Type 0
@@ -91,7 +90,7 @@ module _ (file : List ℕ) where
   told_counted (names ns) t e = absurd (let z : ◌≡◌ {A = ℕ} 0 1 = cc in omega arith)
   told_counted (refusal it) {why} t e = let same : why ≡ it = cc in rw same t
 
-  pub refusal_there : {why : Refusal} → Err why ≡ checked file → (why.place ≤ length file) × (0 < refusal_number why.reason) × ((refusal_number why.reason) ≤ 18)
+  pub refusal_there : {why : Refusal} → Err why ≡ checked file → (why.place ≤ length file) × (0 < refusal_number why.reason) × (refusal_number why.reason ≤ 18)
   unfolding checked listed
   refusal_there e = told_counted (listed file) (told_in (left file 0) [] (record { at = 0 }) (omega arith)) e
 

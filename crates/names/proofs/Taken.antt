@@ -8,6 +8,7 @@ use Prim.Native.Nat.{ℕ, zero, suc, ◌+◌, ◌≤◌, ◌<◌}
 use native.Mathlib.Omega.{arith}
 use lib.ListN.{length, get_or, take, drop, drop_of_length-le, take-append-drop}
 use lib.Seq.{drop-drop}
+use Rattle.std.specs.Prelude.{Ok, Err}
 use Rattle.grammar.specs.Columns.{Bytes}
 use Rattle.grammar.specs.Limits.{Distinct, end}
 use Rattle.grammar.specs.Limits as limits
@@ -22,7 +23,6 @@ use Rattle.names.specs.Check.{Listing, names, refusal, name_passed, end_passed, 
 use Rattle.names.proofs.Spelling.{spelt_name}
 use Rattle.names.proofs.Lists.{list_none, list_first}
 use Rattle.names.proofs.Passing.{Passing, passing, length_name, Ending, ending}
-use Rattle.std.specs.Prelude.{Ok, Err}
 
 -- ---- the records that were passed
 

@@ -4,17 +4,17 @@ use mathlib.Core.Bool.{cond}
 use mathlib.Core.List.{List, [], ◌∷◌, ◌++◌}
 use Prim.Native.Nat.{ℕ, zero, suc, ◌≤◌, ◌<◌}
 use native.Mathlib.Omega.{arith}
+use Rattle.std.specs.Prelude.{Ok, Err}
 use Rattle.grammar.specs.Columns.{Bytes}
 use Rattle.record.specs.Records as records
 use Rattle.record.specs.Records.{record_of, left, finds, Passed}
 use Rattle.record.specs.Refusals.{refused}
 use Rattle.record.specs.declared.Cursor.{Cursor}
+use Rattle.record.specs.declared.refusal.Reason.TheVariants as reason
 use Rattle.record.proofs.Steps.{no_opening, finds_none}
 use Rattle.names.specs.Names.{name_at}
 use Rattle.names.specs.Check.{Listing, refusal, name_passed, end_passed, ended, goes_on, record_listed, listed_in, listed_from}
 use Rattle.names.proofs.Passing.{passing}
-use Rattle.std.specs.Prelude.{Ok, Err}
-use Rattle.record.specs.declared.refusal.Reason.TheVariants as reason
 
 -- Readings that go on alike from where a name was passed.
 goes_alike : (p : Passed) {f g : Cursor → Listing} → ((c : Cursor) → Ok c ≡ p → f c ≡ g c) → goes_on p f ≡ goes_on p g

@@ -6,12 +6,12 @@ use Rattle.grammar.specs.Columns.{Bytes}
 use Rattle.grammar.specs.Limits.{is_in}
 use Rattle.record.specs.Records as records
 use Rattle.record.specs.Records.{record_of, left, step, varying_step, finds, judged, nothing_after, Passed}
+use Rattle.record.specs.Refusals.{refused, refusal_number}
 use Rattle.record.specs.declared.Cursor.{Cursor}
 use Rattle.record.specs.declared.refusal.Refusal.{Refusal}
+use Rattle.record.specs.declared.refusal.Reason.TheVariants as reason
 use Rattle.record.specs.declared.Varying.{Varying}
 use Rattle.names.specs.Names.{name_at}
-use Rattle.record.specs.declared.refusal.Reason.TheVariants as reason
-use Rattle.record.specs.Refusals.{refused, refusal_number}
 
 -- What a file comes to as a name list: its names, or the refusal.
 pub data Listing : Type 0 where

@@ -108,7 +108,7 @@ held {file} {at} {it} e = rw (← e) at (held_in file at it)
 -- A step moves on by the record's length, or is refused at the record's start, by 1 or 2.
 abbrev pub EndsBy : ℕ → Record → Step → Type 0
 EndsBy at it (Payload b next) = next.at ≡ at + 4 + it.length
-EndsBy at it (Refused why) = (why.place ≡ at) × (0 < refusal_number why.reason) × ((refusal_number why.reason) ≤ 2)
+EndsBy at it (Refused why) = (why.place ≡ at) × (0 < refusal_number why.reason) × (refusal_number why.reason ≤ 2)
 
 -- What holds of both ways a test can go holds of what it comes to.
 pub either_way : {A : Type 0} (P : A → Type 0) (b : Bool) {x y : A} → P x → P y → P (cond b x y)

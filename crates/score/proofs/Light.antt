@@ -4,19 +4,18 @@ use mathlib.Core.Path.{◌≡◌}
 use mathlib.Core.List.{List}
 use Prim.Native.Nat.{ℕ, ◌≤◌, ◌<◌}
 use native.Mathlib.Omega.{arith}
+use Rattle.std.specs.Prelude.{Ok}
 use Rattle.taxa.specs.Sum.{sum}
 use Rattle.taxa.specs.Sets.{◌⊆◌, mass, all}
 use Rattle.taxa.proofs.Masses.{mass_⊆, mass_all}
 use Rattle.record.specs.Bytes.{File}
 use Rattle.matrix.specs.declared.Column.{Column}
 use Rattle.matrix.specs.Matrix.{LegalColumn, column_in, matrix_of}
-use Rattle.matrix.specs.Check.{checked}
+use Rattle.matrix.specs.Check.{checked, shape}
 use Rattle.matrix.proofs.Taken.{taken_legal, taken_column}
 use Rattle.matrix.proofs.Multiplying.{legal_merged}
 use Rattle.score.specs.inner.Light.{Light}
 use Rattle.score.specs.Operation.{stand_for}
-use Rattle.std.specs.Prelude.{Ok}
-use Rattle.matrix.specs.Check.{shape}
 
 -- A legal column is light where all n taxa are.
 legal_light : {μ : ℕ → ℕ} {n : ℕ} {c : Column} → n ≤ 64 → sum n μ ≤ 127 → LegalColumn n c → Light μ c

@@ -5,12 +5,17 @@ use mathlib.Core.List.{List}
 use Prim.Native.Nat.{ℕ, ◌^◌, ◌≤◌, ◌<◌}
 use native.Mathlib.Omega.{arith}
 use lib.Dec.{eqb, lit≤}
+use Rattle.std.specs.Prelude.{Result, Ok, Err}
 use Rattle.taxa.proofs.Sums.{sum_bound}
 use Rattle.record.specs.Bytes.{File}
+use Rattle.record.specs.declared.refusal.Refusal.{Refusal}
+use Rattle.record.specs.Records.{Passed}
+use Rattle.record.specs.Refusals.{refusal_number}
 use Rattle.record.proofs.Steps.{either_way}
 use Rattle.record.proofs.Places.{By}
 use Rattle.matrix.specs.Matrix.{column_in}
-use Rattle.matrix.specs.Check.{checked}
+use Rattle.matrix.specs.Check.{checked, shape}
+use Rattle.matrix.specs.declared.Shape.{Shape}
 use Rattle.matrix.proofs.Places.{refusal_small}
 use Rattle.matrix.proofs.Taken.{taken_legal, taken_columns, taken_column}
 use Rattle.answer.specs.Content.{content_in}
@@ -19,20 +24,14 @@ use Rattle.answer.proofs.Places.{largest, Few, answer_by}
 use Rattle.score.specs.Score.{column_score, raises_of, lowers_of}
 use Rattle.score.specs.inner.Light.{column_most}
 use Rattle.score.specs.Operation.{node_in, stand_for, agreed, after_answer, after_matrix, scored}
+use Rattle.score.specs.declared.Sums.{Sums}
 use Rattle.score.proofs.Columns.{column_small}
 use Rattle.score.proofs.Light.{taken_light}
-use Rattle.std.specs.Prelude.{Result, Ok, Err}
-use Rattle.record.specs.declared.refusal.Refusal.{Refusal}
-use Rattle.record.specs.Records.{Passed}
-use Rattle.matrix.specs.Check.{shape}
-use Rattle.record.specs.Refusals.{refusal_number}
-use Rattle.matrix.specs.declared.Shape.{Shape}
-use Rattle.score.specs.declared.Sums.{Sums}
 
 -- What fits the bits that C gets.
 abbrev pub Small : Result Sums Refusal → Type 0
 Small (Ok it) = (it.raises.0 < 2 ^ 31) × (it.lowers.0 < 2 ^ 31)
-Small (Err why) = (why.place ≤ largest) × ((refusal_number why.reason) ≤ 21)
+Small (Err why) = (why.place ≤ largest) × (refusal_number why.reason ≤ 21)
 
 module _ {matrix : List ℕ} (f : File matrix) (answer : List ℕ) where
   taken_small : {n m : ℕ} → Ok (shape n m) ≡ checked matrix → Small (agreed matrix answer n m)

@@ -5,12 +5,14 @@ use Prim.Native.Nat.{ℕ, zero, suc, ◌<◌}
 use native.Mathlib.Omega.{arith}
 use lib.ListN.{get_or, replicate}
 use borrow.Author.Tests.{eq-eqb, ne_eqb}
+use Rattle.std.specs.Prelude.{Result, Ok, Err}
 use Rattle.record.specs.Refusals.{refused}
 use Rattle.record.specs.declared.Cursor.{Cursor}
 use Rattle.record.specs.declared.refusal.Refusal.{Refusal}
+use Rattle.record.specs.declared.refusal.Reason.TheVariants as reason
 use Rattle.matrix.specs.declared.Column.{Column}
 use Rattle.matrix.specs.Matrix.{column_in}
-use Rattle.matrix.specs.Check.{checked}
+use Rattle.matrix.specs.Check.{checked, shape}
 use Rattle.answer.specs.declared.Answer.{Answer}
 use Rattle.answer.specs.Content.{content_in, group_count, taxa_in, padded, answer_of}
 use Rattle.answer.specs.Reading.{file_tests}
@@ -20,9 +22,6 @@ use Rattle.score.specs.declared.Raises.{Raises}
 use Rattle.score.specs.declared.Lowers.{Lowers}
 use Rattle.score.specs.Score.{leaf, nearest_in, node_for, raises_of, lowers_of}
 use Rattle.score.specs.Operation.{node_in, stand_for, agreed, scored, returned, Scores}
-use Rattle.std.specs.Prelude.{Result, Ok, Err}
-use Rattle.matrix.specs.Check.{shape}
-use Rattle.record.specs.declared.refusal.Reason.TheVariants as reason
 use Rattle.score.specs.declared.Sums.{Sums}
 
 -- ---- the groups in a value's places

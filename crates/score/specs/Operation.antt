@@ -3,19 +3,18 @@ use Rattle.std.specs.Prelude.{◌≡◌, ◌&&◌, cond, List, ℕ, eqb, Result,
 use Rattle.taxa.specs.Sets.{multiplicity}
 use Rattle.record.specs.Records.{Passed}
 use Rattle.record.specs.declared.Cursor.{Cursor}
+use Rattle.record.specs.declared.refusal.Refusal.{Refusal}
+use Rattle.record.specs.declared.refusal.Reason.TheVariants as reason
+use Rattle.record.specs.Refusals.{refused, refusal_number}
 use Rattle.matrix.specs.declared.Column.{Column}
 use Rattle.matrix.specs.Matrix.{multiplicities_in, column_in}
-use Rattle.matrix.specs.Check.{checked}
+use Rattle.matrix.specs.Check.{checked, shape}
+use Rattle.matrix.specs.declared.Shape.{Shape}
 use Rattle.answer.specs.Content.{content_in}
 use Rattle.answer.specs.Reading.{file_tests}
 use Rattle.score.specs.declared.Raises.{Raises}
 use Rattle.score.specs.declared.Lowers.{Lowers}
 use Rattle.score.specs.Score.{Node, node_for, raises_of, lowers_of}
-use Rattle.record.specs.declared.refusal.Refusal.{Refusal}
-use Rattle.matrix.specs.Check.{shape}
-use Rattle.record.specs.declared.refusal.Reason.TheVariants as reason
-use Rattle.record.specs.Refusals.{refused, refusal_number}
-use Rattle.matrix.specs.declared.Shape.{Shape}
 use Rattle.score.specs.declared.Sums.{Sums}
 
 -- The nodes of the tree in an answer file.

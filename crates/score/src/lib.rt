@@ -12,8 +12,8 @@ ghost use Rattle.score.specs.Operation as operation;
 ghost use Rattle.score.specs.Operation.{Readable};
 
 use answer::reader::{answer_in, pass_file};
-use matrix::{Checked, Column};
-use record::{Passed, Refusal};
+use matrix::Column;
+use record::refusal::{Reason, Refusal};
 
 // Flips from 0 to 1, and flips from 1 to 0: counted apart, and summed by nothing but `distance`.
 #[derive(Clone, Copy)]
@@ -21,6 +21,13 @@ pub struct Raises(pub u32);
 
 #[derive(Clone, Copy)]
 pub struct Lowers(pub u32);
+
+// What the score tells of two files that it takes: raises and lowers, each times its weight.
+#[derive(Clone, Copy)]
+pub struct Sums {
+    pub raises: Raises,
+    pub lowers: Lowers,
+}
 
 // "The taxa in both Z and X".
 fn raises_at(planes: &[u64; 72], it: Column, node: u64) -> Raises
@@ -42,7 +49,7 @@ fn distance(planes: &[u64; 72], it: Column, node: u64) -> u32
 {
     let raises = raises_at(planes, it, node);
     let lowers = lowers_at(planes, it, node);
-    it.weight as u32 * (raises.0 + lowers.0)
+    u32::from(it.weight) * (raises.0 + lowers.0)
 }
 
 // Whether a node counts before another: nearer, or as near with fewer raises.
@@ -76,7 +83,7 @@ fn nearest_leaf(planes: &[u64; 72], it: Column, n: u32) -> u64
     ensures { result ≡ score.nearest_in (multiplicity_in planes.now) it score.leaf n (score.leaf 0) }
 {
     let mut best: u64 = 1;
-    for i in 0u32..n {
+    for i in 0..n {
         best = nearest_of(planes, it, taxa::single(i), best);
     }
     best
@@ -88,8 +95,8 @@ fn nearest_node(planes: &[u64; 72], it: Column, groups: &[u64], k: usize, leaf: 
     ensures { result ≡ score.nearest_in (multiplicity_in planes.now) it (λ i. get_or groups.now i 0) k leaf }
 {
     let mut best = leaf;
-    for i in 0usize..k {
-        best = nearest_of(planes, it, groups[i], best);
+    for &group in &groups[..k] {
+        best = nearest_of(planes, it, group, best);
     }
     best
 }
@@ -102,19 +109,12 @@ fn node_for(planes: &[u64; 72], it: Column, n: u32, groups: &[u64], k: usize) ->
     nearest_node(planes, it, groups, k, nearest_leaf(planes, it, n))
 }
 
-// Raises and lowers, each times its weight.
-#[derive(Clone, Copy)]
-pub struct Sums {
-    pub raises: Raises,
-    pub lowers: Lowers,
-}
-
 // A count of flips times the column's weight: at most 127 times 65,535.
 fn weighed(weight: u16, flips: u32) -> u32
     requires { flips ≤ 127 }
     ensures { (result ≡ weight * flips) × (result ≤ column_most) }
 {
-    weight as u32 * flips
+    u32::from(weight) * flips
 }
 
 // A column's score at its node added to those before it: nothing, whatever the node, if the column has no 1.
@@ -157,66 +157,42 @@ fn score_columns(
         raises: Raises(0),
         lowers: Lowers(0),
     };
-    for c in 0usize..m {
+    for c in 0..m {
         let it = matrix::column_in(file, c);
         sum = with_column(planes, sum, it, node_for(planes, it, n, groups, k));
     }
     sum
 }
 
-// What the score answers: raises and lowers, each times its weight, or the refusal.
-#[derive(Clone, Copy)]
-pub enum Scored {
-    Taken(Raises, Lowers),
-    Refused(Refusal),
-}
-
 // Two files that were read: their n and m have to agree.
-fn score_read(matrix: &[u8], answer: &[u8], n: u16, m: u16) -> Scored
+fn score_read(matrix: &[u8], answer: &[u8], n: u16, m: u16) -> Result<Sums, Refusal>
     requires { Readable matrix.now answer.now n m }
     ensures { result ≡ operation.agreed matrix.now answer.now n m }
 {
     let value = answer_in(answer);
     if value.n != n {
-        return Scored::Refused(Refusal {
-            number: 15,
-            place: 0,
-        });
+        return Err(Reason::Differ.at(0));
     }
     if value.m != m {
-        return Scored::Refused(Refusal {
-            number: 15,
-            place: 0,
-        });
+        return Err(Reason::Differ.at(0));
     }
     let planes = matrix::planes_in(matrix);
     let groups = value.taxa;
-    let sum = score_columns(
+    Ok(score_columns(
         &planes,
         matrix,
         m as usize,
-        n as u32,
+        u32::from(n),
         &groups,
         value.groups as usize,
-    );
-    let raises = sum.raises;
-    let lowers = sum.lowers;
-    Scored::Taken(raises, lowers)
+    ))
 }
 
 // The operation "score".
-pub fn score(matrix: &[u8], answer: &[u8]) -> Scored
+pub fn score(matrix: &[u8], answer: &[u8]) -> Result<Sums, Refusal>
     ensures { operation.Scores matrix.now answer.now result }
 {
-    let checked = matrix::check(matrix);
-    match checked {
-        Checked::Refused(why) => Scored::Refused(why),
-        Checked::Taken(n, m) => {
-            let passed = pass_file(answer);
-            let Passed::At(_) = passed else {
-                return Scored::Refused(passed.refusal());
-            };
-            score_read(matrix, answer, n, m)
-        }
-    }
+    let shape = matrix::check(matrix)?;
+    pass_file(answer)?;
+    score_read(matrix, answer, shape.n, shape.m)
 }

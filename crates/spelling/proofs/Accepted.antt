@@ -8,6 +8,7 @@ use Prim.Native.Nat.{ℕ, zero, suc, ◌^◌, ◌<◌}
 use native.Mathlib.Decide.{dec_lt}
 use native.Mathlib.Omega.{arith}
 use lib.ListN.{length, get_or}
+use Rattle.std.specs.Prelude.{Ok}
 use Rattle.taxa.specs.Sets.{◌⊆◌, all}
 use Rattle.taxa.proofs.Members.{⊆-≤, below, all_<, all_fits}
 use Rattle.record.proofs.Lists.{get_or_in, in_get_or}
@@ -21,7 +22,6 @@ use Rattle.clades.specs.Clades.{NamesFor}
 use Rattle.names.specs.Check.{names_in, checked}
 use Rattle.names.proofs.Taken.{taken_legal, taken_count}
 use Rattle.spelling.specs.Write.{name_in}
-use Rattle.std.specs.Prelude.{Ok}
 
 -- ---- the answer
 

@@ -8,9 +8,13 @@ use native.Mathlib.Omega.{arith}
 use lib.Dec.{ltb, eqb}
 use lib.ListN.{length}
 use borrow.Author.Tests.{eqb-true}
+use Rattle.std.specs.Prelude.{Result, Ok, Err}
 use Rattle.record.specs.Bytes.{File}
 use Rattle.record.specs.Records.{Passed}
 use Rattle.record.specs.declared.Cursor.{Cursor}
+use Rattle.record.specs.declared.refusal.Refusal.{Refusal}
+use Rattle.record.specs.declared.refusal.Reason.TheVariants as reason
+use Rattle.record.specs.Refusals.{refused, refusal_number}
 use Rattle.record.proofs.Steps.{either_way}
 use Rattle.record.proofs.Places.{By}
 use Rattle.answer.specs.Content.{content_in}
@@ -20,15 +24,11 @@ use Rattle.names.specs.Check.{checked}
 use Rattle.names.proofs.Places.{refusal_there}
 use Rattle.spelling.specs.Write.{text_of, after_both, after_list, after_answer, spelled}
 use Rattle.spelling.proofs.Promises.{never_longer}
-use Rattle.std.specs.Prelude.{Result, Ok, Err}
-use Rattle.record.specs.declared.refusal.Refusal.{Refusal}
-use Rattle.record.specs.declared.refusal.Reason.TheVariants as reason
-use Rattle.record.specs.Refusals.{refused, refusal_number}
 
 -- Of a list.
 abbrev pub Small : List ℕ → Result ℕ Refusal → Type 0
 Small list (Ok size) = size ≤ 2238
-Small list (Err why) = (why.place ≤ max largest (length list)) × (0 < refusal_number why.reason) × ((refusal_number why.reason) ≤ 18)
+Small list (Err why) = (why.place ≤ max largest (length list)) × (0 < refusal_number why.reason) × (refusal_number why.reason ≤ 18)
 
 module _ {answer : List ℕ} (f : File answer) (list : List ℕ) (room : ℕ) where
   both_small : {here : Cursor} → Ok here ≡ file_tests answer → {count : ℕ} → Ok count ≡ checked list → Small list (after_both answer list count room)

@@ -7,6 +7,7 @@ use mathlib.Core.List.{List}
 use Prim.Native.Nat.{ℕ, ◌+◌, ◌*◌, ◌≤◌}
 use lib.ListN.{length, take}
 use borrow.Author.Tests.{eq-eqb, le-ltb}
+use Rattle.std.specs.Prelude.{Result, Ok}
 use Rattle.taxa.specs.Sets.{all}
 use Rattle.taxa.proofs.Members.{all_fits}
 use Rattle.record.specs.Bytes.{File}
@@ -29,11 +30,10 @@ use Rattle.clades.proofs.Drawn.{drawn_shows}
 use Rattle.clades.proofs.Only as trees
 use Rattle.clades.proofs.Exactly.{clades_exactly}
 use Rattle.clades.proofs.Back as back
+use Rattle.record.specs.declared.refusal.Refusal.{Refusal}
 use Rattle.spelling.specs.Write.{name_in, tree_of, text_of, after_both, spelled, output_after, Accepted, Spells}
 use Rattle.spelling.proofs.Accepted.{lawful_groups, lawful_root, lawful_inside, names_for}
 use Rattle.spelling.proofs.Lengths.{text_short}
-use Rattle.std.specs.Prelude.{Result, Ok}
-use Rattle.record.specs.declared.refusal.Refusal.{Refusal}
 
 module _ {answer list : List ℕ} (f : File answer) (a : Accepted answer list) where
   abbrev c : Content

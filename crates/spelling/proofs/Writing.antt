@@ -6,25 +6,25 @@ use Prim.Native.Nat.{ℕ, ◌+◌, ◌*◌, ◌≤◌, ◌<◌}
 use native.Mathlib.Omega.{arith}
 use lib.ListN.{length}
 use borrow.Author.Tests.{eq-eqb, ne_eqb, lt-ltb, le-ltb}
+use Rattle.std.specs.Prelude.{Result, Ok, Err}
 use Rattle.taxa.proofs.Members.{all_fits}
 use Rattle.record.specs.Bytes.{File, over}
-use Rattle.record.specs.Refusals.{refused}
 use Rattle.record.specs.declared.Cursor.{Cursor}
-use Rattle.record.specs.declared.refusal.Refusal.{Refusal}
 use Rattle.answer.specs.declared.Answer.{Answer}
 use Rattle.answer.specs.Content.{content_in, answer_of}
 use Rattle.answer.specs.Reading.{file_tests}
 use Rattle.answer.proofs.Accepted.{taken_lawful}
 use Rattle.answer.proofs.Outcomes.{laid, groups_placed, groups_first}
 use Rattle.clades.proofs.Drawn.{drawn_shows}
+use Rattle.record.specs.Refusals.{refused}
+use Rattle.record.specs.declared.refusal.Refusal.{Refusal}
+use Rattle.record.specs.declared.refusal.Reason.TheVariants as reason
 use Rattle.names.specs.Check.{checked}
 use Rattle.names.proofs.Taken.{taken_count}
 use Rattle.spelling.specs.Write.{name_in, text_of, after_both, spelled, output_after, returned, Spells}
 use Rattle.spelling.specs.inner.Spell.{text_for, groups_of, Readable, Tellable}
 use Rattle.spelling.proofs.Accepted.{lawful_groups, lawful_root, names_for}
 use Rattle.spelling.proofs.Lengths.{text_short}
-use Rattle.std.specs.Prelude.{Result, Ok, Err}
-use Rattle.record.specs.declared.refusal.Reason.TheVariants as reason
 
 -- ---- both files were read
 

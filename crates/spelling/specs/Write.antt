@@ -11,10 +11,10 @@ use Rattle.grammar.specs.Trees.{Tree, one}
 use Rattle.grammar.specs.Columns.{Bytes}
 use Rattle.grammar.specs.Writer.{written}
 use Rattle.clades.specs.Draw.{drawn}
-use Rattle.names.specs.Check.{names_in, checked}
 use Rattle.record.specs.declared.refusal.Refusal.{Refusal}
 use Rattle.record.specs.declared.refusal.Reason.TheVariants as reason
 use Rattle.record.specs.Refusals.{refused, refusal_number}
+use Rattle.names.specs.Check.{names_in, checked}
 
 -- The name of taxon i by a name list file.
 abbrev pub name_in : List ℕ → ℕ → Bytes

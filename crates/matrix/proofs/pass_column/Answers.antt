@@ -12,7 +12,7 @@ unfolding column_passed
 returns-in_default c =
     let found : c.read-step.result ≡ step c.args.file.now c.args.here.at (record_of records.column) =
     rw (← c.of.ensures) c.read-step.ensures in
-    rw (c.refusal.ensures, ← found, c.in_default.is)
+    rw (c.past.ensures, ← found, c.in_default.is)
 
 pub read-requires : goal.read-requires
 read-requires c =

@@ -10,7 +10,7 @@ unfolding end_passed
 returns-in_default c =
     let found : c.read-step.result ≡ step c.args.file.now c.args.here.at (record_of records.matrix_end) =
     rw (← c.of.ensures) c.read-step.ensures in
-    rw (c.refusal.ensures, ← found, c.in_default.is)
+    rw (c.past.ensures, ← found, c.in_default.is)
 
 pub returns : goal.returns
 unfolding end_passed

@@ -12,7 +12,7 @@ unfolding head_passed
 returns-in_default c =
     let found : c.read-step.result ≡ step c.args.file.now 0 (record_of records.matrix_head) =
     rw (← c.start.ensures, ← c.of.ensures) c.read-step.ensures in
-    rw (c.refusal.ensures, ← found, c.in_default.is)
+    rw (c.past.ensures, ← found, c.in_default.is)
 
 pub u16_at-requires : goal.u16_at-requires
 u16_at-requires c =

@@ -28,7 +28,7 @@ returns-in_default c =
     let found : (let args = c.args in
     c.read-step.result ≡ step args.file.now args.here.at (multiplicity_record args.n)) =
     rw (← c.multiplicities.ensures) c.read-step.ensures in
-    rw (c.refusal.ensures, sym c.has_multiplicities.ensures ∙ c.if-not-has_multiplicities.false, ← found, c.in_default.is)
+    rw (c.past.ensures, sym c.has_multiplicities.ensures ∙ c.if-not-has_multiplicities.false, ← found, c.in_default.is)
 
 pub overflow_add-at : goal.overflow_add-at
 overflow_add-at c = omega (arith, taken c)

@@ -4,8 +4,8 @@ use lib.ListN.{length}
 use Rattle.names.proofs.Checking.{Reached}
 use Rattle.names.proofs.check.Given as goal
 
-abbrev pub invariant-loop-passed : goal.invariant-loop-passed
-invariant-loop-passed l = Reached l.file l.cursor l.count
+abbrev pub invariant-loop-cursor : goal.invariant-loop-cursor
+invariant-loop-cursor l = Reached l.file l.cursor l.count
 
-abbrev pub decreases-loop-passed : goal.decreases-loop-passed
-decreases-loop-passed l = length l.file - l.cursor.at
+abbrev pub decreases-loop-cursor : goal.decreases-loop-cursor
+decreases-loop-cursor l = length l.file - l.cursor.at

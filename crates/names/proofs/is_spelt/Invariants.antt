@@ -1,12 +1,8 @@
 -- `names::is_spelt` meets its contract. The invariant: what is left to test comes to what all comes to.
 use mathlib.Core.Path.{◌≡◌}
-use Prim.Native.Nat.{◌-◌, ◌≤◌}
-use lib.ListN.{length, drop}
+use lib.ListN.{drop}
 use Rattle.names.specs.Check.{spelt}
 use Rattle.names.proofs.is_spelt.Given as goal
 
-abbrev pub invariant-loop-i : goal.invariant-loop-i
-invariant-loop-i l = (l.i ≤ length l.name) × (spelt l.name ≡ spelt (drop l.i l.name))
-
-abbrev pub decreases-loop-i : goal.decreases-loop-i
-decreases-loop-i l = length l.name - l.i
+abbrev pub invariant-loop-byte : goal.invariant-loop-byte
+invariant-loop-byte l = spelt l.name ≡ spelt (drop l.byte-index l.name)

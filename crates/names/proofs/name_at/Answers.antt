@@ -2,7 +2,7 @@
 use mathlib.Core.Path.{◌≡◌, ◌∙◌}
 use mathlib.Core.List.{List, []}
 use native.Mathlib.Omega.{arith}
-use Prim.Native.Nat.{ℕ, ◌<◌, ◌≤◌, ◌-◌}
+use Prim.Native.Nat.{ℕ, ◌+◌, ◌<◌, ◌≤◌, ◌-◌}
 use lib.ListN.{length, get_or}
 use Rattle.names.specs.Names.{name_at}
 use Rattle.names.specs.Check.{names_in}
@@ -20,33 +20,31 @@ arrived : (file : List ℕ) (index left at : ℕ) → index < length (names_in f
     → There file at (get_or (names_in file) index [])
 arrived file index left at h e none = rw (e ∙ place_none file left at none) at (named file index h)
 
-pub loop-left-preserved : goal.loop-left-preserved
-loop-left-preserved c =
-    let at = c.loop-left in
-    rw c.after-at.ensures (at.invariant ∙ place_one c.args.file.now at.left at.at c.loop-left-test.true)
+pub loop-preserved : goal.loop-preserved
+loop-preserved c =
+    let left = c.args.index - c.loop.counter in
+    let fewer : left - 1 ≡ c.args.index - (c.loop.counter + 1) = omega arith in
+    rw (c.after-at.ensures, ← fewer) (c.loop.invariant ∙ place_one c.args.file.now left c.loop.at (omega arith))
 
 pub returns : goal.returns
 unfolding name_at
 returns c =
-    let file = c.args.file.now in
-    let at = c.loop-left in
-    let there = arrived file c.args.index at.left at.at c.requires at.invariant c.loop-left-test.false in
+    let there = arrived c.args.file.now c.args.index (c.args.index - c.loop.counter) c.loop.at c.requires c.loop.invariant (omega arith) in
     record { is = rw c.u16_at.ensures there.is; within = omega arith; some = omega arith; short = omega arith }
 
 -- Inside the loop there is another record before that one.
 pub after-at-requires : goal.after-at-requires
 after-at-requires c =
     let file = c.args.file.now in
-    let at = c.loop-left in
+    let at = c.loop.at in
+    let left = c.args.index - c.loop.counter in
     let there = named file c.args.index c.requires in
-    omega (arith, at.invariant, place_one file at.left at.at c.loop-left-test.true, place_grows file (at.left - 1) (after file at.at))
+    omega (arith, c.loop.invariant, place_one file left at (omega arith), place_grows file (left - 1) (after file at))
 
 pub overflow_add-result : goal.overflow_add-result
 overflow_add-result c =
-    let at = c.loop-left in
-    omega (arith, arrived c.args.file.now c.args.index at.left at.at c.requires at.invariant c.loop-left-test.false)
+    omega (arith, arrived c.args.file.now c.args.index (c.args.index - c.loop.counter) c.loop.at c.requires c.loop.invariant (omega arith))
 
 pub u16_at-requires : goal.u16_at-requires
 u16_at-requires c =
-    let at = c.loop-left in
-    omega (arith, arrived c.args.file.now c.args.index at.left at.at c.requires at.invariant c.loop-left-test.false)
+    omega (arith, arrived c.args.file.now c.args.index (c.args.index - c.loop.counter) c.loop.at c.requires c.loop.invariant (omega arith))

@@ -11,7 +11,7 @@ returns-in_default c =
     let found : (let args = c.args in
     c.read-step.result ≡ step args.file.now args.here.at (record_of records.names_end)) =
     rw (← c.of.ensures) c.read-step.ensures in
-    rw (c.refusal.ensures, ← found, c.in_default.is)
+    rw (c.past.ensures, ← found, c.in_default.is)
 
 pub returns : goal.returns
 unfolding end_passed

@@ -1,13 +1,14 @@
 -- `names::pass_name` meets its contract: a refused step goes straight out, and else the name is judged.
 use borrow.Author.Rules.{rules}
 use mathlib.Core.Bool.{Bool}
-use mathlib.Core.Path.{◌≡◌, sym, ◌∙◌}
+use mathlib.Core.Path.{◌≡◌, sym, ap, ◌∙◌}
 use mathlib.Core.List.{List}
 use Prim.Native.Nat.{ℕ, ◌-◌}
 use lib.ListN.{take, drop}
-use Rattle.record.specs.declared.Cursor.{Cursor}
 use native.Mathlib.Omega.{arith}
 use lib.Dec.{lit<}
+use Rattle.std.specs.Prelude.{Err}
+use Rattle.record.specs.declared.Cursor.{Cursor}
 use Rattle.record.specs.Bytes.{number_at}
 use Rattle.record.specs.Records as records
 use Rattle.record.specs.Records.{varying_step}
@@ -35,7 +36,7 @@ returns-in_default c =
     let told = c.in_default.is in
     let found : c.read_varying-step.result ≡ varying_step args.file.now args.here.at any_name =
     rw (← c.any_name.ensures) c.read_varying-step.ensures in
-    rw (c.refusal.ensures, told) (name_refused _ _ _ (sym told ∙ found))
+    rw (c.past.ensures, told) (name_refused _ _ _ (sym told ∙ found))
 
 pub slice_bounds-is_spelt-count : goal.slice_bounds-is_spelt-count
 slice_bounds-is_spelt-count c =
@@ -64,7 +65,7 @@ returns-then-not-is_spelt c =
     let read : step.Payload c.in-Payload.at c.in-Payload.next ≡ varying_step args.file.now args.here.at any_name =
     rw (← c.any_name.ensures) (sym c.in-Payload.is ∙ c.read_varying-step.ensures) in
     let spelt_is : c.is_spelt.result ≡ spelt (name_at args.file.now args.here.at) = tested args.file.now args.here.at c.in-Payload.at c.in-Payload.next read _ c.is_spelt.ensures in
-    wrong_byte _ _ _ _ (sym spelt_is ∙ c.if-not-is_spelt.true) ∙ name_read _ _ _ _ read
+    ap Err c.at.ensures ∙ wrong_byte _ _ _ _ (sym spelt_is ∙ c.if-not-is_spelt.true) ∙ name_read _ _ _ _ read
 
 pub is_repeat-requires : goal.is_repeat-requires
 is_repeat-requires c =
@@ -80,7 +81,7 @@ returns-then-is_repeat c =
     let read : step.Payload c.in-Payload.at c.in-Payload.next ≡ varying_step args.file.now args.here.at any_name =
     rw (← c.any_name.ensures) (sym c.in-Payload.is ∙ c.read_varying-step.ensures) in
     let spelt_is : c.is_spelt.result ≡ spelt (name_at args.file.now args.here.at) = tested args.file.now args.here.at c.in-Payload.at c.in-Payload.next read _ c.is_spelt.ensures in
-    repeated _ _ _ _ (sym spelt_is ∙ c.if-not-is_spelt.false) (sym c.is_repeat.ensures ∙ c.if-is_repeat.true) ∙ name_read _ _ _ _ read
+    ap Err c.at-then-is_repeat.ensures ∙ repeated _ _ _ _ (sym spelt_is ∙ c.if-not-is_spelt.false) (sym c.is_repeat.ensures ∙ c.if-is_repeat.true) ∙ name_read _ _ _ _ read
 
 pub returns : goal.returns
 returns c =

@@ -1,9 +1,9 @@
 -- `score::score` meets its contract: the matrix's refusal, the answer's, or what two files that were read come to.
 use mathlib.Core.Path.{sym, ap, ◌∙◌}
+use Rattle.std.specs.Prelude.{Err}
 use Rattle.record.specs.Records.{passed_refusal}
 use Rattle.score.proofs.Scoring.{matrix_refused, answer_refused, both_read}
 use Rattle.score.proofs.score.Goals as goal
-use Rattle.std.specs.Prelude.{Err}
 
 pub returns-in_default : goal.returns-in_default
 returns-in_default c =

@@ -2,6 +2,7 @@
 use mathlib.Core.Path.{◌≡◌, sym, ap, ◌∙◌}
 use mathlib.Core.List.{List}
 use Prim.Native.Nat.{ℕ}
+use Rattle.std.specs.Prelude.{Ok, Err}
 use Rattle.record.specs.Records.{passed_refusal}
 use Rattle.record.specs.declared.Cursor.{Cursor}
 use Rattle.answer.specs.Reading.{file_tests}
@@ -9,7 +10,6 @@ use Rattle.names.specs.Check.{checked}
 use Rattle.spelling.specs.inner.Spell.{Readable}
 use Rattle.spelling.proofs.Writing.{answer_refused, list_refused, both_read}
 use Rattle.spelling.proofs.write.Goals as goal
-use Rattle.std.specs.Prelude.{Ok, Err}
 
 -- Both were read.
 both : (answer list : List ℕ) {here : Cursor} {count : ℕ} → Ok here ≡ file_tests answer → Ok count ≡ checked list → Readable answer list count
