@@ -13,5 +13,5 @@ loop-at-preserved c = one_more c.loop-at.invariant (search rules) (sym c.is_blan
 pub returns-else-is_blank : goal.returns-else-is_blank
 returns-else-is_blank c = stops_here c.loop-at.invariant (sym c.is_blank.ensures ∙ c.if-is_blank.false)
 
-pub returns : goal.returns
-returns c = stops_at_end c.loop-at.invariant c.loop-at-test.false
+pub returns-after-loop-at : goal.returns-after-loop-at
+returns-after-loop-at c = stops_at_end c.loop-at.invariant c.loop-at-test.false

@@ -3,7 +3,7 @@ use borrow.Author.Rules.{rules}
 use native.Mathlib.Omega.{arith}
 use mathlib.Core.Path.{◌≡◌}
 use lib.ListN.{take}
-use Rattle.newick.proofs.Book.{zero_more, no_zeros}
+use Rattle.newick.proofs.Columns.{zero_more, no_zeros}
 use Rattle.newick.proofs.tokens.fill_zeros.Goals as goal
 
 pub loop-c-preserved : goal.loop-c-preserved

@@ -1,0 +1,1 @@
+-- `newick::Book::take_sign` meets its contract: each sign by its own function.
