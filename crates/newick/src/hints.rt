@@ -67,10 +67,11 @@ fn place_of(text: &[u8], at: usize, size: usize) -> usize
     ensures { result < 4096 }
 {
     if size < WORD {
-        return place_of_word(short_word(text, at, size));
+        place_of_word(short_word(text, at, size))
+    } else {
+        let words = words_at(text, at, size);
+        place_of_word(words.first ^ (words.second >> 1) ^ (words.third >> 2) ^ (words.last >> 3))
     }
-    let words = words_at(text, at, size);
-    place_of_word(words.first ^ (words.second >> 1) ^ (words.third >> 2) ^ (words.last >> 3))
 }
 
 impl Book {

@@ -15,8 +15,8 @@ impl Letters {
     // The table.
     pub fn new() -> Self {
         let mut table = [false; 256];
-        for b in 0usize..256 {
-            table[b] = grammar::is_letter(b as u8);
+        for (b, letter) in table.iter_mut().enumerate() {
+            *letter = grammar::is_letter(b as u8);
         }
         Letters { table }
     }

@@ -45,7 +45,7 @@ impl Book {
         ensures { out.new ≡ over (list_of (names_in text.now self.now.starts self.now.sizes n)) 0 out.old }
     {
         let mut at: usize = 0;
-        for i in 0usize..n {
+        for i in 0..n {
             let size = self.sizes[i];
             put_name(&mut out[at..], text, self.starts[i], size);
             at += 4 + size;

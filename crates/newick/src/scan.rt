@@ -34,7 +34,7 @@ impl Book {
         requires { Placed text.now self.now.starts self.now.sizes n × (at + size ≤ length text.now) }
         ensures { result ≡ number (names_in text.now self.now.starts self.now.sizes n) (piece text.now at size) }
     {
-        for i in 0usize..n {
+        for i in 0..n {
             if same_names(text, at, size, self.starts[i], self.sizes[i]) {
                 return i;
             }

@@ -90,20 +90,15 @@ fn put_clade(ones: &mut [u64; COLUMNS], columns: usize, i: usize, clade: u64)
     }
 }
 
-// The 0-sets of a tree's columns: its other names.
-fn fill_zeros(
-    ones: &[u64; COLUMNS],
-    zeros: &mut [u64; COLUMNS],
-    first: usize,
-    end: usize,
-    here: u64,
-)
-    requires { (first ≤ end) × (end ≤ 256) }
-    ensures { (take end zeros.new ≡ take first zeros.old ++ map (λ c. here ∖ c) (take (end - first) (drop first ones.now)))
+// The 0-sets of a tree's columns, up to so many columns: its other names.
+fn fill_zeros(ones: &[u64; COLUMNS], zeros: &mut [u64; COLUMNS], tree: Reading, end: usize)
+    requires { (tree.columns ≤ end) × (end ≤ 256) }
+    ensures { (take end zeros.new
+        ≡ take tree.columns zeros.old ++ map (λ c. tree.here ∖ c) (take (end - tree.columns) (drop tree.columns ones.now)))
         × (length zeros.new ≡ 256) }
 {
-    for c in first..end {
-        zeros[c] = taxa::difference(here, ones[c]);
+    for c in tree.columns..end {
+        zeros[c] = taxa::difference(tree.here, ones[c]);
     }
 }
 
@@ -241,13 +236,7 @@ impl Book {
             return Stepped::refused(16, from.at, from);
         }
         let columns = from.columns + from.opened.saturating_sub(1);
-        fill_zeros(
-            &self.ones,
-            &mut self.zeros,
-            from.columns,
-            columns,
-            from.here,
-        );
+        fill_zeros(&self.ones, &mut self.zeros, from, columns);
         Stepped::on(Reading {
             at: next,
             ended: false,

@@ -10,8 +10,8 @@ pub loop-c-preserved : goal.loop-c-preserved
 loop-c-preserved c =
     let l = c.loop-c in
     let a = c.args in
-    let kept = take a.first a.zeros.now in
-    let more = zero_more a.ones.now l.zeros kept a.here a.first l.c (search rules) (search rules) (search rules) l.invariant.3 in
+    let kept = take a.tree.columns a.zeros.now in
+    let more = zero_more a.ones.now l.zeros kept a.tree.here a.tree.columns l.c (search rules) (search rules) (search rules) l.invariant.3 in
     (search rules, search rules, search rules, rw c.difference.ensures more)
 
 pub returns : goal.returns
@@ -21,4 +21,4 @@ returns c =
     (rw (← all) l.invariant.3, l.invariant.2)
 
 pub loop-c-init : goal.loop-c-init
-loop-c-init c = let a = c.args in (search rules, search rules, search rules, no_zeros a.ones.now a.zeros.now a.here a.first)
+loop-c-init c = let a = c.args in (search rules, search rules, search rules, no_zeros a.ones.now a.zeros.now a.tree.here a.tree.columns)

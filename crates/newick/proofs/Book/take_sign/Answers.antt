@@ -1,1 +1,0 @@
--- `newick::Book::take_sign` meets its contract: each sign by its own function.
