@@ -22,16 +22,6 @@ put_name-requires c =
     let below = room p.placed.0 l.i (search rules) in
     (p.placed.0.inside l.i (search rules), p.placed.1 l.i (search rules), simp (length-take, length-drop) (omega arith))
 
-pub overflow_add-at : goal.overflow_add-at
-overflow_add-at c =
-    let p = c.requires in
-    omega (arith, p.placed.1 c.loop-i.i (search rules))
-
-pub overflow_add-at-in-loop-i : goal.overflow_add-at-in-loop-i
-overflow_add-at-in-loop-i c =
-    let p = c.requires in
-    omega (arith, room p.placed.0 c.loop-i.i (search rules))
-
 pub loop-i-preserved : goal.loop-i-preserved
 loop-i-preserved c =
     let l = c.loop-i in

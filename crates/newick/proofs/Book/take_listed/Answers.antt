@@ -9,12 +9,6 @@ returns-then-i-ge-TAXA c = λ h e.
     let pre = c.requires in
     rw c.refused.ensures (name_19 h e _ pre.1 pre.2 pre.3 _ c.number_of-i.ensures (search rules) (search rules))
 
-pub returns-then-i-from : goal.returns-then-i-from
-returns-then-i-from c = λ h e.
-    let pre = c.requires in
-    c.take_known.ensures _ _ (hinted_anyhow h _) e
-    (record { run = pre.1; some = pre.2; short = pre.3; known = search rules; numbered = c.number_of-i.ensures })
-
 pub returns : goal.returns
 returns c = λ h e.
     let pre = c.requires in

@@ -21,11 +21,6 @@ pub returns-then-size-gt-NAME_BYTES : goal.returns-then-size-gt-NAME_BYTES
 returns-then-size-gt-NAME_BYTES c = λ h e.
     rw c.refused.ensures (name_17 h e _ (name c.requires.1 c.requires.2 c.end-end.ensures).0 (search rules))
 
-pub hinted-i-requires : goal.hinted-i-requires
-hinted-i-requires c =
-    let (run, some) = name c.requires.1 c.requires.2 c.end-end.ensures in
-    (c.requires.0, omega arith, search rules, omega (arith, run.within))
-
 pub returns-then-i-from : goal.returns-then-i-from
 returns-then-i-from c = λ h e.
     let (run, some) = name c.requires.1 c.requires.2 c.end-end.ensures in

@@ -27,10 +27,6 @@ module _ {text : List ℕ} {at : ℕ} (room : at + 4 ≤ length text) where
       → Sofar is_letter text at (at + 3)
   three a b c = next_of 2 3 refl (two a b) (omega arith) c
 
-pub returns-then-not-is_at : goal.returns-then-not-is_at
-returns-then-not-is_at c =
-    some_of 4 (none c.requires) (search rules) (rw (add-zero _) (sym c.is_at.ensures ∙ c.if-not-is_at.true))
-
 pub returns-then-not-is_at-2 : goal.returns-then-not-is_at-2
 returns-then-not-is_at-2 c =
     let l1 = sym c.is_at.ensures ∙ c.if-not-is_at.false in
