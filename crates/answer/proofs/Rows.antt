@@ -8,6 +8,7 @@ use native.Mathlib.Numerals.{add-one, sub-one}
 use native.Mathlib.Omega.{arith}
 use lib.Dec.{eqb, ltb}
 use lib.ListN.{get_or}
+use borrow.Author.Count.{below_more}
 use borrow.Author.Tests.{lt-ltb, le-ltb, eq-eqb, ne_eqb}
 use Rattle.std.specs.Prelude.{Some, None}
 use Rattle.taxa.specs.Sets.{◌∩◌, ◌∪◌, within, count, low, all}
@@ -92,6 +93,17 @@ module _ (taxa : List ℕ) (x k : ℕ) (l : 0 < k) where
 
   pub last_compatible : compatible (get_or taxa (k - 1) 0) x ≡ true → compatible_all taxa x k ≡ compatible_all taxa x (k - 1)
   last_compatible e = one_less taxa x k l ∙ rw e (and_true (compatible_all taxa x (k - 1)))
+
+-- One of the groups before.
+pub one_crosses : (taxa : List ℕ) (x k i : ℕ) → i < k → compatible (get_or taxa i 0) x ≡ false → compatible_all taxa x k ≡ false
+unfolding compatible_all
+one_crosses taxa x zero i l e = absurd (omega arith)
+one_crosses taxa x (suc k) i l e =
+    below_more
+    (λ i. compatible (get_or taxa i 0) x ≡ false → compatible_all taxa x (suc k) ≡ false) k
+    (λ i l e. rw (one_crosses taxa x k i l e))
+    (λ e. last_crosses taxa x (suc k) (omega arith) (rw sub-one e))
+    i (omega arith) e
 
 module _ (n : ℕ) (taxa : List ℕ) (i : ℕ) where
   pub group_unknown : within (get_or taxa i 0) (all n) ≡ false → Some reason.UnknownTaxon ≡ group_fault n taxa i

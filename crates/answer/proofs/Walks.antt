@@ -14,6 +14,8 @@ use Rattle.record.specs.Records.{record_of, step, onward, Passed}
 use Rattle.record.specs.declared.Cursor.{Cursor}
 use Rattle.record.specs.declared.refusal.Reason.{Reason}
 use Rattle.record.specs.declared.refusal.Refusal.{Refusal}
+use Rattle.record.specs.declared.Record.{Record}
+use Rattle.record.specs.declared.Step.{Step}
 use Rattle.record.proofs.Steps.{Held, held}
 use Rattle.record.proofs.Passing.{through_step, through}
 use Rattle.answer.specs.Content.{padded, numbers_of, taxa_in, costs_in, columns_from, raised_from, lowered_from}
@@ -118,6 +120,11 @@ met file kind here fault place {next} e =
     let (at, c, found, j) = through_step (step file here.at (record_of kind)) e in
     let (none, same) = through_judge fault place c j in
     (none, subst₂ (λ (b : ℕ) (c : Cursor). Held file here.at (record_of kind) b c) (held found).starts same (held found))
+
+-- What a step found where a record of a kind was to be read.
+pub found_at : (file : List ℕ) (kind : ℕ) {at from : ℕ} {it : Record} {taken found : Step} → it ≡ record_of kind → at ≡ from → taken ≡ step file at it → taken ≡ found
+    → found ≡ step file from (record_of kind)
+found_at file kind of_kind place said is = sym is ∙ said ∙ (λ i. step file (place i) (of_kind i))
 
 module _ (file : List ℕ) where
   pub entry_met : (n m floor column raised lowered : ℕ) (here : Cursor) {next : Cursor} → Ok next ≡ entry_test (in_file file) n m floor column raised lowered here

@@ -145,7 +145,14 @@ fn kept(m: u16, floor: u64, column: u64, raised: u64, lowered: u64) -> bool
     common(raised, lowered) == 0
 }
 
-pub fn entry_fault(n: u16, m: u16, floor: u64, column: u64, raised: u64, lowered: u64) -> Option<Reason>
+pub fn entry_fault(
+    n: u16,
+    m: u16,
+    floor: u64,
+    column: u64,
+    raised: u64,
+    lowered: u64,
+) -> Option<Reason>
     requires { n ≤ 64 }
     ensures { result ≡ rules.entry_fault n m floor column raised lowered }
 {

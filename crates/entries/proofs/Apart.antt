@@ -11,9 +11,8 @@ use Rattle.record.specs.Bytes.{over}
 use Rattle.answer.specs.Content.{Content, content_in, flip_count, columns_from, raised_from, lowered_from}
 use Rattle.answer.specs.Reading.{reading, returned, listed, filled, Reads}
 use Rattle.answer.specs.declared.Answer.{Answer}
-use Rattle.answer.specs.declared.Reading.{Reading}
-use Rattle.answer.specs.declared.Verdict.{Verdict}
-use Rattle.answer.specs.declared.Verdict.TheVariants.{Taken, Refused}
+use Rattle.record.specs.declared.refusal.Refusal.{Refusal}
+use Rattle.std.specs.Prelude.{Result, Ok, Err}
 use Rattle.answer.proofs.Runs.{length_entries}
 use Rattle.entries.specs.declared.Flip.{Flip}
 use Rattle.entries.specs.Entries.{zipped, entry_columns, entry_raised, entry_lowered, entries_of, entry_content, stored, ReadsEntries}
@@ -78,12 +77,12 @@ unfolding columns_from
 length_read file = sym (length-map (entries_of (content_in file)) (λ (f : Flip). f.column)) ∙ ap length (in_file_lem file).columns_are ∙ length_entries _ (flip_count file)
 
 -- One number of each entry, as it is left in a list of its own.
-filled_map : (f : Flip → ℕ) (v : Verdict) (es ys : List Flip) {new : List ℕ} → map f es ≡ new → map f (stored v es ++ drop (length (stored v es)) ys) ≡ filled v new (map f ys)
+filled_map : (f : Flip → ℕ) (r : Result Answer Refusal) (es ys : List Flip) {new : List ℕ} → map f es ≡ new → map f (stored r es ++ drop (length (stored r es)) ys) ≡ filled r new (map f ys)
 unfolding over
-filled_map f Taken es ys e = rw (← e, map-append f es (drop (length es) ys), length-map es f, zero-add, drop_map f (length es) ys)
-filled_map f (Refused why) es ys e = refl
+filled_map f (Ok a) es ys e = rw (← e, map-append f es (drop (length es) ys), length-map es f, zero-add, drop_map f (length es) ys)
+filled_map f (Err why) es ys e = refl
 
-module _ {file : List ℕ} {ys ys' : List Flip} {r : Reading} (x : ReadsEntries file ys r ys') where
+module _ {file : List ℕ} {ys ys' : List Flip} {r : Result Answer Refusal} (x : ReadsEntries file ys r ys') where
   pub apart_read : Reads file (entry_columns ys) (entry_raised ys) (entry_lowered ys) r (entry_columns ys') (entry_raised ys') (entry_lowered ys')
   apart_read =
       let answers = x.answers ∙ ap (reading file) (sym (listed_entries ys)) in
@@ -91,13 +90,13 @@ module _ {file : List ℕ} {ys ys' : List Flip} {r : Reading} (x : ReadsEntries 
       record {
         answers = answers;
         numbers = ap returned answers;
-        columns_after = ap entry_columns x.list_after ∙ filled_map (λ f. f.column) r.verdict es ys (in_file_lem file).columns_are;
-        raised_after = ap entry_raised x.list_after ∙ filled_map (λ f. f.raised) r.verdict es ys (in_file_lem file).raised_are;
-        lowered_after = ap entry_lowered x.list_after ∙ filled_map (λ f. f.lowered) r.verdict es ys (in_file_lem file).lowered_are;
+        columns_after = ap entry_columns x.list_after ∙ filled_map (λ f. f.column) r es ys (in_file_lem file).columns_are;
+        raised_after = ap entry_raised x.list_after ∙ filled_map (λ f. f.raised) r es ys (in_file_lem file).raised_are;
+        lowered_after = ap entry_lowered x.list_after ∙ filled_map (λ f. f.lowered) r es ys (in_file_lem file).lowered_are;
       }
 
   -- The file's entries stand first, and the rest stays as it was.
-  pub taken_entries : r.verdict ≡ Taken → {c : Content} → content_in file ≡ c → (take c.flips ys' ≡ entries_of c) × (drop c.flips ys' ≡ drop c.flips ys)
+  pub taken_entries : {a : Answer} → r ≡ Ok a → {c : Content} → content_in file ≡ c → (take c.flips ys' ≡ entries_of c) × (drop c.flips ys' ≡ drop c.flips ys)
   taken_entries t e =
       let k = flip_count file in
       let es = entries_of (content_in file) in

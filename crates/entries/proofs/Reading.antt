@@ -4,7 +4,6 @@ use mathlib.Core.Path.{◌≡◌, refl, sym, ap, ◌∙◌}
 use mathlib.Core.Bool.{Bool, true, false, cond}
 use mathlib.Core.List.{List, [], ◌∷◌, ◌++◌, append_assoc}
 use Prim.Native.Nat.{ℕ, zero, suc, ◌+◌, ◌<◌, ◌≤◌, min}
-use native.Mathlib.Nat.{not-suc-le-zero}
 use native.Mathlib.Omega.{arith}
 use lib.Dec.{ltb}
 use lib.ListN.{length, get_or, take, drop}
@@ -13,24 +12,23 @@ use borrow.Author.Tests.{ltb-true, ltb-false, lt-ltb, le-ltb}
 use Rattle.record.specs.Bytes.{over as laidOver}
 use Rattle.record.specs.Records.{onward, Passed}
 use Rattle.record.specs.declared.Cursor.{Cursor}
+use Rattle.record.specs.declared.refusal.Reason.TheVariants as reason
 use Rattle.record.specs.declared.refusal.Refusal.{Refusal}
 use Rattle.record.proofs.Passing.{through}
 use Rattle.answer.specs.Content.{content_in, answer_of, flip_count, columns_from, raised_from, lowered_from}
 use Rattle.answer.specs.Tests.{judge, in_file, flips_test}
-use Rattle.answer.specs.Reading.{returned, empty, listed, file_tests, read_tests, reading, answered, Reads}
-use Rattle.answer.specs.declared.Reading.{Reading}
-use Rattle.answer.specs.declared.Verdict.{Verdict}
-use Rattle.answer.specs.declared.Verdict.TheVariants.{Taken, Refused}
+use Rattle.answer.specs.Reading.{returned, listed, file_tests, read_tests, reading, answered, Reads}
+use Rattle.answer.specs.declared.Answer.{Answer}
 use Rattle.answer.proofs.Kept.{unless, entry_keeps}
 use Rattle.answer.proofs.Walks.{through_judge, walk_each, entry_met}
 use Rattle.answer.proofs.Files.{read_through}
 use Rattle.answer.proofs.Runs.{length_entries}
 use Rattle.answer.proofs.Outcomes.{laid}
 use Rattle.entries.specs.declared.Flip.{Flip}
-use Rattle.entries.specs.Entries.{zipped, entries_of, stored, ReadsEntries}
-use Rattle.entries.specs.inner.Parts.{with_first, InParts}
+use Rattle.entries.specs.Entries.{zipped, entries_of, ReadsEntries}
+use Rattle.entries.specs.inner.Parts.{with_first, FlipsFirst, InParts}
 use Rattle.entries.proofs.Rows.{long_zipped}
-use Rattle.std.specs.Prelude.{Ok, Err}
+use Rattle.std.specs.Prelude.{Some, None, Result, Ok, Err}
 
 -- ---- entries from parts
 pub take_zipped : (k : ℕ) (cs us ds : List ℕ) → take k (zipped cs us ds) ≡ zipped (take k cs) (take k us) (take k ds)
@@ -40,21 +38,23 @@ take_zipped (suc k) (c ∷ cs) [] ds = refl
 take_zipped (suc k) (c ∷ cs) (u ∷ us) [] = refl
 take_zipped (suc k) (c ∷ cs) (u ∷ us) (d ∷ ds) = ap {B = List Flip} (λ (r : List Flip). record { column = c; raised = u; lowered = d } ∷ r) (take_zipped k cs us ds)
 
-stored_zipped : (v : Verdict) (cs us ds : List ℕ) → zipped (stored v cs) (stored v us) (stored v ds) ≡ stored v (zipped cs us ds)
-stored_zipped Taken cs us ds = refl
-stored_zipped (Refused why) cs us ds = refl
+module _ (file : List ℕ) (ys : List Flip) (cs us ds : List ℕ) {r : Result Answer Refusal} (p : InParts file (length ys) r cs us ds) where
+  -- A refusal leaves the list as it was.
+  pub parts_refused : {why : Refusal} → r ≡ Err why → ReadsEntries file ys (Err why) ys
+  parts_refused is = let answers = sym is ∙ p.answers in record { answers = answers; numbers = ap returned answers; list_after = refl }
 
-module _ (file : List ℕ) (ys : List Flip) (r : Reading) (cs us ds : List ℕ) (p : InParts file (length ys) r cs us ds) where
-  abbrev k : ℕ
-  k = r.answer.flips
+  module _ {a : Answer} (is : r ≡ Ok a) where
+    abbrev k : ℕ
+    k = a.flips
 
-  first : take k (zipped cs us ds) ≡ stored r.verdict (entries_of (content_in file))
-  first = take_zipped k cs us ds ∙ (λ i. zipped (p.columns_first i) (p.raised_first i) (p.lowered_first i)) ∙ stored_zipped r.verdict (content_in file).columns (content_in file).raised (content_in file).lowered
+    first : take k (zipped cs us ds) ≡ entries_of (content_in file)
+    first = let f = p.taken a is in take_zipped k cs us ds ∙ (λ i. zipped (f.columns_first i) (f.raised_first i) (f.lowered_first i))
 
-  pub parts_read : k ≤ length cs → k ≤ length us → k ≤ length ds → ReadsEntries file ys r (with_first k (zipped cs us ds) ys)
-  parts_read l m n =
-      let long : k ≡ length (stored r.verdict (entries_of (content_in file))) = sym (length-take-le k (zipped cs us ds) (long_zipped k cs us ds l m n)) ∙ ap length first in
-      record { answers = p.answers; numbers = ap returned p.answers; list_after = λ i. first i ++ drop (long i) ys }
+    pub parts_read : k ≤ length cs → k ≤ length us → k ≤ length ds → ReadsEntries file ys (Ok a) (with_first k (zipped cs us ds) ys)
+    parts_read l m n =
+        let answers = sym is ∙ p.answers in
+        let long : k ≡ length (entries_of (content_in file)) = sym (length-take-le k (zipped cs us ds) (long_zipped k cs us ds l m n)) ∙ ap length first in
+        record { answers = answers; numbers = ap returned answers; list_after = λ i. first i ++ drop (long i) ys }
 
 -- ---- 256 is room enough
 pub room_same : (entries flips : ℕ) → flips ≤ 256 → ltb (min entries 256) flips ≡ ltb entries flips
@@ -72,8 +72,8 @@ module _ (file : List ℕ) where
   unfolding reading read_tests
   reading_same entries = ap (answered (content_in file)) (go (file_tests file) refl)
     where
-      go : (p : Passed) → p ≡ file_tests file → onward p (judge (cond (ltb (min entries 256) (flip_count file)) 10 0) 0) ≡ onward p (judge (cond (ltb entries (flip_count file)) 10 0) 0)
-      go (Ok here) e = ap (λ (b : Bool). judge (cond b 10 0) 0 here) (room_same entries (flip_count file) (few_flips e))
+      go : (p : Passed) → p ≡ file_tests file → onward p (judge (cond (ltb (min entries 256) (flip_count file)) (Some reason.Room) None) 0) ≡ onward p (judge (cond (ltb entries (flip_count file)) (Some reason.Room) None) 0)
+      go (Ok here) e = ap (λ (b : Bool). judge (cond b (Some reason.Room) None) 0 here) (room_same entries (flip_count file) (few_flips e))
       go (Err why) e = refl
 
   -- A column of an accepted file is below m.
@@ -96,15 +96,11 @@ module _ (file : List ℕ) (entries : ℕ) where
   abbrev room : ℕ
   room = min entries 256
 
-  refused_parts : {r : Reading} {cs us ds : List ℕ} (why : Refusal) → r ≡ record { verdict = Refused why; answer = answer_of empty } → r ≡ reading file entries → InParts file entries r cs us ds
-  refused_parts why e a =
-      record { answers = a; has_room = rw e (omega arith); few = rw e (omega arith); columns_first = rw e; raised_first = rw e; lowered_first = rw e; columns_narrow = rw e (λ i l. absurd (not-suc-le-zero l)) }
-
-  taken_parts : {here : Cursor} {r : Reading} {cs us ds : List ℕ} → Ok here ≡ file_tests file → flip_count file ≤ room → r ≡ record { verdict = Taken; answer = answer_of (content_in file) } → r ≡ reading file entries
-      → take (flip_count file) cs ≡ (content_in file).columns → take (flip_count file) us ≡ (content_in file).raised → take (flip_count file) ds ≡ (content_in file).lowered → InParts file entries r cs us ds
-  taken_parts {cs = cs} p l e a c u d =
+  taken_parts : {here : Cursor} {a : Answer} {cs us ds : List ℕ} → Ok here ≡ file_tests file → flip_count file ≤ room → a ≡ answer_of (content_in file)
+      → take (flip_count file) cs ≡ (content_in file).columns → take (flip_count file) us ≡ (content_in file).raised → take (flip_count file) ds ≡ (content_in file).lowered
+      → FlipsFirst file entries a cs us ds
+  taken_parts {cs = cs} p l e c u d =
       record {
-        answers = a;
         has_room = rw e (omega arith);
         few = rw e (omega arith);
         columns_first = rw e c;
@@ -113,7 +109,7 @@ module _ (file : List ℕ) (entries : ℕ) where
         columns_narrow = rw e (λ i s. let b = column_below file p i s in omega (arith, get_or-take (flip_count file) cs i 0 s, ap (λ (xs : List ℕ). get_or xs i 0) c));
       }
 
-  module _ (cs us ds : List ℕ) (l₁ : length cs ≡ 256) (l₂ : length us ≡ 256) (l₃ : length ds ≡ 256) {r : Reading} {cs' us' ds' : List ℕ} (reads : Reads file (take room cs) (take room us) (take room ds) r cs' us' ds') where
+  module _ (cs us ds : List ℕ) (l₁ : length cs ≡ 256) (l₂ : length us ≡ 256) (l₃ : length ds ≡ 256) {r : Result Answer Refusal} {cs' us' ds' : List ℕ} (reads : Reads file (take room cs) (take room us) (take room ds) r cs' us' ds') where
     roomed : (xs : List ℕ) → length xs ≡ 256 → length (take room xs) ≡ room
     roomed xs e = length-take-le room xs (omega arith)
 
@@ -125,15 +121,16 @@ module _ (file : List ℕ) (entries : ℕ) where
 
     pub in_parts : InParts file entries r (cs' ++ drop room cs) (us' ++ drop room us) (ds' ++ drop room ds)
     unfolding reading read_tests columns_from raised_from lowered_from
-    in_parts = go (read_tests file room) refl
+    in_parts = record { answers = answers_room ∙ reading_same file entries; taken = go (read_tests file room) refl }
       where
-        go : (p : Passed) → p ≡ read_tests file room → InParts file entries r (cs' ++ drop room cs) (us' ++ drop room us) (ds' ++ drop room ds)
-        go (Ok here) e =
+        go : (p : Passed) → p ≡ read_tests file room → (a : Answer) → r ≡ Ok a → FlipsFirst file entries a (cs' ++ drop room cs) (us' ++ drop room us) (ds' ++ drop room ds)
+        go (Ok here) e a t =
             let (at, p, j) = through (file_tests file) e in
-            let l = ltb-false room (flip_count file) (unless _ 10 0 (omega arith) (through_judge _ 0 at j).0).0 in
-            let is : r ≡ record { verdict = Taken; answer = answer_of (content_in file) } = answers_room ∙ ap (answered (content_in file)) (sym e) in
-            taken_parts p l is (answers_room ∙ reading_same file entries)
+            let l = ltb-false room (flip_count file) (unless _ reason.Room None (through_judge _ 0 at j).0).0 in
+            let is : r ≡ Ok (answer_of (content_in file)) = answers_room ∙ ap (answered (content_in file)) (sym e) in
+            let value : a ≡ answer_of (content_in file) = cc in
+            taken_parts p l value
             (rw (reads.columns_after, is) (front (content_in file).columns (take room cs) (drop room cs) (flip_count file) (length_entries _ (flip_count file))))
             (rw (reads.raised_after, is) (front (content_in file).raised (take room us) (drop room us) (flip_count file) (length_entries _ (flip_count file))))
             (rw (reads.lowered_after, is) (front (content_in file).lowered (take room ds) (drop room ds) (flip_count file) (length_entries _ (flip_count file))))
-        go (Err why) e = refused_parts why (answers_room ∙ ap (answered (content_in file)) (sym e)) (answers_room ∙ reading_same file entries)
+        go (Err why) e a t = let is : r ≡ Err why = answers_room ∙ ap (answered (content_in file)) (sym e) in cc

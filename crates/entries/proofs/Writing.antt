@@ -21,18 +21,20 @@ use Rattle.entries.specs.declared.Flip.{Flip}
 use Rattle.entries.specs.Entries.{entry_columns, entry_raised, entry_lowered, entry_content}
 use Rattle.entries.specs.inner.Parts.{with_first}
 use Rattle.entries.proofs.Reading.{room_same}
-use Rattle.std.specs.Prelude.{Result, Ok, Err}
+use Rattle.std.specs.Prelude.{Option, Some, None, Result, Ok, Err}
+use Rattle.record.specs.declared.refusal.Reason.{Reason}
+use Rattle.record.specs.declared.refusal.Reason.TheVariants as reason
 use Rattle.record.specs.declared.refusal.Refusal.{Refusal}
 use Rattle.record.specs.Records.{Passed}
 
 -- ---- the head is judged as for the whole list
 module _ (n m groups flips entries : ℕ) where
   -- the head's fault past the test of n, and past that of m
-  abbrev past_m : ℕ → ℕ
-  past_m listed = cond (counted n groups) (cond (ltb m flips || ltb listed flips) 13 0) 12
+  abbrev past_m : ℕ → Option Reason
+  past_m listed = cond (counted n groups) (cond (ltb m flips || ltb listed flips) (Some reason.Flips) None) (Some reason.Groups)
 
-  abbrev past_n : Bool → ℕ → ℕ
-  past_n many x = cond many 4 x
+  abbrev past_n : Bool → Option Reason → Option Reason
+  past_n many x = cond many (Some reason.ColumnCount) x
 
   few_columns : (b : Bool) → ltb m flips ≡ b → m ≤ 256 → (b || ltb (min entries 256) flips) ≡ (b || ltb entries flips)
   few_columns true e l = refl
@@ -40,11 +42,11 @@ module _ (n m groups flips entries : ℕ) where
 
   past_n_lem : (b : Bool) → ltb 256 m ≡ b → past_n b (past_m (min entries 256)) ≡ past_n b (past_m entries)
   past_n_lem true e = refl
-  past_n_lem false e = ap (λ (b : Bool). cond (counted n groups) (cond b 13 0) 12) (few_columns (ltb m flips) refl (ltb-false 256 m e))
+  past_n_lem false e = ap (λ (b : Bool). cond (counted n groups) (cond b (Some reason.Flips) None) (Some reason.Groups)) (few_columns (ltb m flips) refl (ltb-false 256 m e))
 
   head_same : head_fault n m groups flips (min entries 256) ≡ head_fault n m groups flips entries
   unfolding head_fault
-  head_same = ap (λ (x : ℕ). cond (eqb n 0 || ltb 64 n) 3 x) (past_n_lem (ltb 256 m) refl)
+  head_same = ap (λ (x : Option Reason). cond (eqb n 0 || ltb 64 n) (Some reason.TaxonCount) x) (past_n_lem (ltb 256 m) refl)
 
   head_test_same : head_test as_given n m groups flips (min entries 256) ≡ head_test as_given n m groups flips entries
   unfolding head_test

@@ -26,7 +26,8 @@ use Rattle.names.proofs.Lists.{length_list}
 use Rattle.newick.specs.declared.Reading.{Reading}
 use Rattle.newick.specs.Read.{matrix_file, name_list, answered, read, output_after, returned, Reads}
 use Rattle.newick.specs.inner.Names.{names_in}
-use Rattle.newick.specs.inner.Book.{Book, ledger_in, Holds}
+use Rattle.newick.specs.declared.Book.{Book}
+use Rattle.newick.specs.inner.Book.{ledger_in, Holds}
 use Rattle.newick.specs.inner.Found.{Found}
 use Rattle.newick.proofs.Names.{length_names}
 use Rattle.std.specs.Prelude.{Result, Ok, Err}
@@ -36,7 +37,7 @@ use Rattle.newick.specs.declared.Derived.{Derived}
 
 -- A text that is accepted.
 pub found : {text : List ℕ} {k : Book} {r : Reading} {ts : Trees} → Holds text k r → ledger.outcome text ≡ accepted ts (ledger_in text k r)
-    → Found text k.starts k.sizes k.ones k.zeros r.taxa r.columns
+    → Found text k r
 found {text} {k} {r} {ts} h e =
     let (x, f, same) = ledger_accepted text e in
     record {
@@ -64,15 +65,15 @@ told text matrix names e =
 abbrev no_room : Result Derived Refusal
 no_room = Err (refused reason.Room 0)
 
-module _ {text starts sizes ones zeros : List ℕ} {n m : ℕ} (g : Found text starts sizes ones zeros n m) where
+module _ {text : List ℕ} {k : Book} {r : Reading} (g : Found text k r) where
   abbrev names_found : List Bytes
-  names_found = names_in text starts sizes n
+  names_found = names_in text k.starts k.sizes r.taxa
 
   abbrev matrix_found : Matrix
-  matrix_found = record { taxa = n; multiplicities = []; columns = weighing_one (take m ones) (take m zeros) }
+  matrix_found = record { taxa = r.taxa; multiplicities = []; columns = weighing_one (take r.columns k.ones) (take r.columns k.zeros) }
 
-  taxa_found : length g.tally.taxa ≡ n
-  taxa_found = ap (λ (l : List Bytes). length l) (sym g.names) ∙ length_names text starts sizes n
+  taxa_found : length g.tally.taxa ≡ r.taxa
+  taxa_found = ap (λ (l : List Bytes). length l) (sym g.names) ∙ length_names text k.starts k.sizes r.taxa
 
   file_found : matrix_file (outcome text) ≡ file_of matrix_found
   file_found =
@@ -82,21 +83,21 @@ module _ {text starts sizes ones zeros : List ℕ} {n m : ℕ} (g : Found text s
   list_found : name_list (outcome text) ≡ list_of names_found
   list_found = rw (g.accepted, g.names)
 
-  file_size : length (matrix_file (outcome text)) ≡ 12 + 22 * m
+  file_size : length (matrix_file (outcome text)) ≡ 12 + 22 * r.columns
   file_size =
-      let o = length-take-le m ones (omega (arith, g.ones_room, g.columns_fit)) in
-      let z = length-take-le m zeros (omega (arith, g.zeros_room, g.columns_fit)) in
-      rw (file_found, length_file n matrix_found.columns, length_weighing (take m ones) (take m zeros) (o ∙ sym z), o)
+      let o = length-take-le r.columns k.ones (omega (arith, g.ones_room, g.columns_fit)) in
+      let z = length-take-le r.columns k.zeros (omega (arith, g.zeros_room, g.columns_fit)) in
+      rw (file_found, length_file r.taxa matrix_found.columns, length_weighing (take r.columns k.ones) (take r.columns k.zeros) (o ∙ sym z), o)
 
   list_size : length (name_list (outcome text)) ≡ list_length names_found
   list_size = rw (list_found, length_list names_found)
 
   abbrev lengths_found : Result Derived Refusal
-  lengths_found = Ok (record { matrix = 12 + 22 * m; names = list_length names_found })
+  lengths_found = Ok (record { matrix = 12 + 22 * r.columns; names = list_length names_found })
 
   module _ (matrix names : List ℕ) where
     read_found : read text (length matrix) (length names)
-        ≡ cond (ltb (length matrix) (12 + 22 * m) || ltb (length names) (list_length names_found)) no_room lengths_found
+        ≡ cond (ltb (length matrix) (12 + 22 * r.columns) || ltb (length names) (list_length names_found)) no_room lengths_found
     unfolding read answered
     read_found = rw (← file_size, ← list_size, g.accepted)
 
@@ -105,12 +106,12 @@ module _ {text starts sizes ones zeros : List ℕ} {n m : ℕ} (g : Found text s
     unfolding output_after
     too_short e = record { answers = sym e; numbers = ap returned (sym e); matrix_output = refl; names_output = refl }
 
-    pub short_file : length matrix < 12 + 22 * m → Reads text matrix names no_room matrix names
-    short_file l = too_short (read_found ∙ rw (lt-ltb (length matrix) (12 + 22 * m) l))
+    pub short_file : length matrix < 12 + 22 * r.columns → Reads text matrix names no_room matrix names
+    short_file l = too_short (read_found ∙ rw (lt-ltb (length matrix) (12 + 22 * r.columns) l))
 
-    module _ (fits : 12 + 22 * m ≤ length matrix) where
-      file_fits : ltb (length matrix) (12 + 22 * m) ≡ false
-      file_fits = le-ltb (length matrix) (12 + 22 * m) fits
+    module _ (fits : 12 + 22 * r.columns ≤ length matrix) where
+      file_fits : ltb (length matrix) (12 + 22 * r.columns) ≡ false
+      file_fits = le-ltb (length matrix) (12 + 22 * r.columns) fits
 
       pub short_list : length names < list_length names_found → Reads text matrix names no_room matrix names
       short_list l = too_short (read_found ∙ rw (file_fits, lt-ltb (length names) (list_length names_found) l))

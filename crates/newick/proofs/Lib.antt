@@ -3,7 +3,12 @@ pub mod Runs
 pub mod Comparing
 pub mod Names
 pub mod Lists
-pub mod Book
+pub mod OpenBrackets
+pub mod Columns
+pub mod Places
+pub mod Signs
+pub mod Naming
+pub mod Ends
 pub mod Finding
 -- What reading promises.
 pub mod Taken

@@ -1,19 +1,16 @@
 // Hints: a list with, at a place that is found from a name's bytes, the taxon that was last met there. A hint is tested before it is taken, so that
 // nothing rests on what stands in the list.
-ghost use Rattle.std.specs.Prelude.{◌≡◌, true, ◌+◌, ◌≤◌, ◌<◌, min, length};
+ghost use Rattle.std.specs.Prelude.{◌≡◌, true, ◌+◌, ◌≤◌, ◌<◌, length};
 ghost use Rattle.grammar.specs.Limits.{number};
 ghost use Rattle.grammar.specs.inner.Standing.{piece};
 ghost use Rattle.newick.specs.inner.Names.{Placed, names_in};
 ghost use Rattle.newick.specs.inner.Words.{short_word, words_at, Legible};
 
-use super::Words;
+use super::{Book, HINTS, Words};
 use record::number::u64_at;
 
 // The bytes of a word.
 const WORD: usize = 8;
-
-// How many hints there are.
-pub const HINTS: usize = 4096;
 
 // Half a word; an odd number of 27 bits that mixes its digits; and the digits below those that are best mixed.
 const HALF: u64 = 0x1_0000_0000;
@@ -28,13 +25,6 @@ fn place_of_word(word: u64) -> usize
 {
     let halves = word / HALF + word % HALF;
     (halves * MIXER / BELOW) as usize % HINTS
-}
-
-// The lesser of two numbers.
-fn lesser(a: usize, b: usize) -> usize
-    ensures { result ≡ min a b }
-{
-    if a <= b { a } else { b }
 }
 
 // A name of less than eight bytes as one number.
@@ -53,26 +43,10 @@ fn words_at(text: &[u8], at: usize, size: usize) -> Words
     let last = size - WORD;
     Words {
         first: u64_at(text, at),
-        second: u64_at(text, at + lesser(last, WORD)),
-        third: u64_at(text, at + lesser(last, 2 * WORD)),
+        second: u64_at(text, at + last.min(WORD)),
+        third: u64_at(text, at + last.min(2 * WORD)),
         last: u64_at(text, at + last),
     }
-}
-
-// Whether four words are the same as four others.
-fn same_words(one: Words, other: Words) -> bool
-    ensures { result ≡ true → one ≡ other }
-{
-    if one.first != other.first {
-        return false;
-    }
-    if one.second != other.second {
-        return false;
-    }
-    if one.third != other.third {
-        return false;
-    }
-    one.last == other.last
 }
 
 // Whether two names of so many bytes are the same.
@@ -81,9 +55,10 @@ fn same_at(text: &[u8], one: usize, other: usize, size: usize) -> bool
     ensures { result ≡ true → piece text.now one size ≡ piece text.now other size }
 {
     if size < WORD {
-        return short_word(text, one, size) == short_word(text, other, size);
+        short_word(text, one, size) == short_word(text, other, size)
+    } else {
+        words_at(text, one, size) == words_at(text, other, size)
     }
-    same_words(words_at(text, one, size), words_at(text, other, size))
 }
 
 // The place of the hint for a name.
@@ -92,60 +67,40 @@ fn place_of(text: &[u8], at: usize, size: usize) -> usize
     ensures { result < 4096 }
 {
     if size < WORD {
-        return place_of_word(short_word(text, at, size));
+        place_of_word(short_word(text, at, size))
+    } else {
+        let words = words_at(text, at, size);
+        place_of_word(words.first ^ (words.second >> 1) ^ (words.third >> 2) ^ (words.last >> 3))
     }
-    let words = words_at(text, at, size);
-    place_of_word(words.first ^ (words.second >> 1) ^ (words.third >> 2) ^ (words.last >> 3))
 }
 
-// The taxon that a hint names.
-fn taxon(hint: u8) -> usize
-    ensures { result ≡ hint }
-{
-    hint as usize
-}
-
-// The number of a name among the first n taxa, where the hint at it is right, and else n.
-pub fn hinted(
-    hints: &[u8; HINTS],
-    text: &[u8],
-    starts: &[usize; 64],
-    sizes: &[usize; 64],
-    n: usize,
-    at: usize,
-    size: usize,
-) -> usize
-    requires { Placed text.now starts.now sizes.now n
-        × (1 ≤ size)
-        × (size ≤ 32)
-        × (at + size ≤ length text.now)
-        × (length hints.now ≡ 4096) }
-    ensures { result < n → result ≡ number (names_in text.now starts.now sizes.now n) (piece text.now at size) }
-{
-    if text.len() - at < WORD {
-        return n;
-    }
-    let i = taxon(hints[place_of(text, at, size)]);
-    if i < n {
-        if sizes[i] == size {
-            let start = starts[i];
-            if start <= at {
-                if same_at(text, at, start, size) {
-                    return i;
-                }
-            }
+impl Book {
+    // The number of a name among the first n taxa, where the hint at it is right, and else n.
+    pub fn hinted(&self, text: &[u8], n: usize, at: usize, size: usize) -> usize
+        requires { Placed text.now self.now.starts self.now.sizes n × (1 ≤ size) × (size ≤ 32) × (at + size ≤ length text.now) }
+        ensures { result < n → result ≡ number (names_in text.now self.now.starts self.now.sizes n) (piece text.now at size) }
+    {
+        if text.len() - at < WORD {
+            return n;
+        }
+        let i = self.hints[place_of(text, at, size)] as usize;
+        if i < n
+            && self.sizes[i] == size
+            && self.starts[i] <= at
+            && same_at(text, at, self.starts[i], size)
+        {
+            i
+        } else {
+            n
         }
     }
-    n
 }
 
 // Hints at taxon i from the name at a place.
 pub fn hint(hints: &mut [u8; HINTS], text: &[u8], at: usize, size: usize, i: usize)
-    requires { (1 ≤ size) × (size ≤ 32) × (at + size ≤ length text.now) × (i < 64) × (length hints.old ≡ 4096) }
-    ensures { length hints.new ≡ 4096 }
+    requires { (1 ≤ size) × (size ≤ 32) × (at + size ≤ length text.now) × (i < 64) }
 {
-    if text.len() - at < WORD {
-        return;
+    if WORD <= text.len() - at {
+        hints[place_of(text, at, size)] = i as u8;
     }
-    hints[place_of(text, at, size)] = i as u8;
 }

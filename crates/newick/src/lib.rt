@@ -4,22 +4,45 @@
 #![tactic(auto)]
 
 mod hints;
+mod letters;
 mod list;
 mod reader;
 mod scan;
 mod tokens;
 
-ghost use Rattle.std.specs.Prelude.{◌≡◌, length};
+ghost use Rattle.std.specs.Prelude.{◌≡◌};
 ghost use Rattle.record.specs.Records as records;
 ghost use Rattle.newick.specs.declared.Derived.TheVariants as derived;
 ghost use Rattle.newick.specs.Read.{Reads};
-ghost use Rattle.newick.specs.inner.Runs.{Lettered};
-ghost use Rattle.newick.specs.inner.Book.{book, Roomy};
+ghost use Rattle.newick.specs.inner.Book.{Roomy};
 ghost use Rattle.newick.specs.inner.Found.{Found};
 
-use hints::HINTS;
+use letters::Letters;
 use matrix::writer::put_matrix;
 use record::Refusal;
+
+// The most names, the most columns and the most open brackets; and how many hints there are.
+const TAXA: usize = 64;
+
+const COLUMNS: usize = 256;
+
+const DEPTH: usize = 64;
+
+const HINTS: usize = 4096;
+
+// The reader's lists. Of each name of the file: where it starts, how long it is, and a hint by which it is found soon. Of each column: its 1-set and its
+// 0-set. Of each open bracket: its number in the tree, the names before it, and whether a subtree in it is finished, with a comma behind it.
+#[derive(Drop)]
+pub struct Book {
+    pub starts: [usize; TAXA],
+    pub sizes: [usize; TAXA],
+    pub hints: [u8; HINTS],
+    pub ones: [u64; COLUMNS],
+    pub zeros: [u64; COLUMNS],
+    pub index: [usize; DEPTH],
+    pub before: [u64; DEPTH],
+    pub filled: [bool; DEPTH],
+}
 
 // Where the reader stands between two tokens, whether a subtree has just ended there, and what it has counted. Of the file: whether a tree is finished,
 // how many taxa, and how many columns in the trees that are finished. Of the tree that is read: its names, how many brackets have opened, and how many
@@ -45,7 +68,7 @@ pub struct Stepped {
 }
 
 // The bytes of a name, eight by eight.
-#[derive(Clone, Copy)]
+#[derive(Clone, Copy, PartialEq, Eq)]
 pub struct Words {
     pub first: u64,
     pub second: u64,
@@ -73,54 +96,39 @@ fn no_room() -> Derived
 // What was found, written where both outputs have room.
 fn write_found(
     text: &[u8],
-    starts: &[usize; 64],
-    sizes: &[usize; 64],
-    ones: &[u64; 256],
-    zeros: &[u64; 256],
-    taxa: usize,
-    columns: usize,
+    book: &Book,
+    end: Reading,
     matrix: &mut [u8],
     names: &mut [u8],
 ) -> Derived
-    requires { Found text.now starts.now sizes.now ones.now zeros.now taxa columns }
+    requires { Found text.now book.now end }
     ensures { Reads text.now matrix.old names.old result matrix.new names.new }
 {
-    let file = 12 + 22 * columns;
-    let list = list::list_length(sizes, taxa);
+    let file = 12 + 22 * end.columns;
+    let list = book.list_length(end.taxa);
     if matrix.len() < file {
         return no_room();
     }
     if names.len() < list {
         return no_room();
     }
-    put_matrix(matrix, taxa as u16, ones, zeros, columns);
-    list::put_list(names, text, starts, sizes, taxa);
+    put_matrix(
+        matrix,
+        end.taxa as u16,
+        &book.ones,
+        &book.zeros,
+        end.columns,
+    );
+    book.put_list(names, text, end.taxa);
     Derived::Taken(file, list)
 }
 
 // The operation, with the lists that the reader keeps.
-fn read_with(
-    letters: &[bool; 256],
-    hints: &mut [u8; HINTS],
-    text: &[u8],
-    matrix: &mut [u8],
-    names: &mut [u8],
-    starts: &mut [usize; 64],
-    sizes: &mut [usize; 64],
-    ones: &mut [u64; 256],
-    zeros: &mut [u64; 256],
-    index: &mut [usize; 64],
-    before: &mut [u64; 64],
-    filled: &mut [bool; 64],
-) -> Derived
-    requires { Roomy (book starts.old sizes.old ones.old zeros.old index.old before.old filled.old)
-        × Lettered letters.now
-        × (length hints.old ≡ 4096) }
+fn read_with(book: &mut Book, text: &[u8], matrix: &mut [u8], names: &mut [u8]) -> Derived
+    requires { Roomy book.old }
     ensures { Reads text.now matrix.old names.old result matrix.new names.new }
 {
-    let last = reader::read_text(
-        letters, hints, text, starts, sizes, ones, zeros, index, before, filled,
-    );
+    let last = book.read_text(&Letters::new(), text);
     let end = last.reading;
     if 0 < last.refusal {
         return Derived::Refused(Refusal {
@@ -128,35 +136,22 @@ fn read_with(
             place: end.at,
         });
     }
-    write_found(
-        text,
-        starts,
-        sizes,
-        ones,
-        zeros,
-        end.taxa,
-        end.columns,
-        matrix,
-        names,
-    )
+    write_found(text, book, end, matrix, names)
 }
 
 // The operation "read source trees".
 pub fn read(text: &[u8], matrix: &mut [u8], names: &mut [u8]) -> Derived
     ensures { Reads text.now matrix.old names.old result matrix.new names.new }
 {
-    read_with(
-        &scan::letter_table(),
-        &mut [0u8; HINTS],
-        text,
-        matrix,
-        names,
-        &mut [0usize; 64],
-        &mut [0usize; 64],
-        &mut [0u64; 256],
-        &mut [0u64; 256],
-        &mut [0usize; 64],
-        &mut [0u64; 64],
-        &mut [false; 64],
-    )
+    let mut book = Book {
+        starts: [0; TAXA],
+        sizes: [0; TAXA],
+        hints: [0; HINTS],
+        ones: [0; COLUMNS],
+        zeros: [0; COLUMNS],
+        index: [0; DEPTH],
+        before: [0; DEPTH],
+        filled: [false; DEPTH],
+    };
+    read_with(&mut book, text, matrix, names)
 }

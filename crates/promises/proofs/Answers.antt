@@ -17,8 +17,7 @@ use Rattle.matrix.specs.Check.{checked}
 use Rattle.answer.specs.Content.{Content, content_in, content_of, answer_of, file_of, length_of}
 use Rattle.answer.specs.Lawful.{Lawful}
 use Rattle.answer.specs.Reading.{reading, listed, Reads}
-use Rattle.answer.specs.declared.Reading.{Reading}
-use Rattle.answer.specs.declared.Verdict.TheVariants as verdict
+use Rattle.answer.specs.declared.Answer.{Answer}
 use Rattle.answer.proofs.Runs.{front_is}
 use Rattle.answer.proofs.Pieces.{length_file}
 use Rattle.answer.proofs.Encoding.{file_holds}
@@ -147,16 +146,16 @@ module _ {file answerFile : List ℕ} (f : File file) (b : Leaves file answerFil
   answer_content = ap content_in (leaves_file b) ∙ file_holds lawful
 
   -- and reading takes it, given a list with room for its flips: what it returns and leaves in the list is that content.
-  pub answer_taken : (room : ℕ) → (content_in answerFile).flips ≤ room → reading answerFile room ≡ record { verdict = verdict.Taken; answer = answer_of (content_for M) }
+  pub answer_taken : (room : ℕ) → (content_in answerFile).flips ≤ room → reading answerFile room ≡ Ok (answer_of (content_for M))
   answer_taken room l =
       ap (λ (x : List ℕ). reading x room) (leaves_file b)
       ∙ reads_back lawful room (omega (arith, ap (λ (c : Content). c.flips) answer_content))
 
-  pub answer_reads_back : {cs us ds : List ℕ} {r : Reading} {cs' us' ds' : List ℕ} → Reads answerFile cs us ds r cs' us' ds' → (content_in answerFile).flips ≤ listed cs us ds
-      → (r.verdict ≡ verdict.Taken) × (content_of r.answer cs' us' ds' ≡ content_for M)
+  pub answer_reads_back : {cs us ds : List ℕ} {r : Result Answer Refusal} {cs' us' ds' : List ℕ} → Reads answerFile cs us ds r cs' us' ds' → (content_in answerFile).flips ≤ listed cs us ds
+      → (a : Answer) × (r ≡ Ok a) × (content_of a cs' us' ds' ≡ content_for M)
   answer_reads_back {cs} {us} {ds} x l =
-      let taken = ap (λ (r : Reading). r.verdict) (x.answers ∙ answer_taken (listed cs us ds) l) in
-      (taken, read_content (rw (leaves_file b) (file_bytes (content_for M))) x taken ∙ answer_content)
+      let taken = x.answers ∙ answer_taken (listed cs us ds) l in
+      (answer_of (content_for M), taken, read_content (rw (leaves_file b) (file_bytes (content_for M))) x taken ∙ answer_content)
 
   -- "The groups, costs and flips are those of the FlipCut method with document 01's ties."
 

@@ -8,9 +8,6 @@ use lib.IntN.{ℤ}
 use lib.ListN.{length}
 use Rattle.record.specs.Bytes.{File}
 use Rattle.answer.specs.declared.Answer.{Answer}
-use Rattle.answer.specs.declared.Reading.{Reading}
-use Rattle.answer.specs.declared.Verdict.{Verdict}
-use Rattle.answer.specs.declared.Verdict.TheVariants as verdict
 use Rattle.answer.specs.Reading as reading
 use Rattle.answer.specs.Writing as writing
 use Rattle.entries.specs.declared.Flip.{Flip}
@@ -49,12 +46,9 @@ refused_split_from_c {result = result} three p some =
     let (cost, side, t, workspace) = refused_split splits refused in
     (workspace, after ∙ kept_result p.answer refused result)
 
-kept_numbers : (r : Reading) → (reading.returned r).number ≢ 0 → (result : List ℕ) → value_after r.verdict r.answer result ≡ result
-kept_numbers r = go r.verdict
-  where
-    go : (d : Verdict) → (reading.returned_by d r.answer).number ≢ 0 → (result : List ℕ) → value_after d r.answer result ≡ result
-    go verdict.Taken some result = absurd (some refl)
-    go (verdict.Refused why) some result = refl
+kept_numbers : (r : Result Answer Refusal) → (reading.returned r).number ≢ 0 → (result : List ℕ) → value_after r result ≡ result
+kept_numbers (Ok answer) some result = absurd (some refl)
+kept_numbers (Err why) some result = refl
 
 pub refused_read_from_c : {file : List ℕ} {list list' : List Flip} {result result' : List ℕ} {v : ℕ} → length result ≡ 131
     → ReadsPacked file list result v list' result' → number_in v ≢ 0 → (list' ≡ list) × (result' ≡ result)
@@ -87,9 +81,9 @@ pub one_read_from_c : {file : List ℕ} {list : List Flip} {result : List ℕ} {
     → ReadsPacked file list result v list' result' → ReadsPacked file list result v' list'' result'' → (v ≡ v') × (list' ≡ list'') × (result' ≡ result'')
 one_read_from_c {result = result} p q =
     let (same, entries) = one_read_of_entries p.promised.0 q.promised.0 in (
-      p.packs ∙ ap (λ (r : Reading). packed_read r.verdict) same ∙ sym q.packs,
+      p.packs ∙ ap packed_read same ∙ sym q.packs,
       entries,
-      p.promised.1 ∙ ap (λ (r : Reading). value_after r.verdict r.answer result) same ∙ sym q.promised.1,
+      p.promised.1 ∙ ap (λ (r : Result Answer Refusal). value_after r result) same ∙ sym q.promised.1,
     )
 
 pub one_write_from_c : (answer : Answer) (list : List Flip) {out : List ℕ} {v v' : ℕ} {out' out'' : List ℕ} → WritesPacked answer list out v out'

@@ -11,8 +11,7 @@ use lib.ListN.{length}
 use Rattle.record.proofs.Steps.{either_way}
 use Rattle.matrix.specs.Check as check
 use Rattle.matrix.proofs.Places.{refusal_small}
-use Rattle.answer.specs.declared.Reading.{Reading}
-use Rattle.answer.specs.declared.Verdict.TheVariants as verdict
+use Rattle.answer.specs.declared.Answer.{Answer}
 use Rattle.answer.specs.Content.{Content, content_in, length_of}
 use Rattle.answer.specs.Reading as reading
 use Rattle.answer.specs.Writing as writing
@@ -106,17 +105,18 @@ score_succeeds {matrix} {answer} {r = Err why} x =
     (λ z. absurd (omega (arith, z, some)), λ (up, down, t). absurd (let z : ◌≡◌ {A = ℕ} 0 1 = cc in omega arith))
 
 -- Reading, into three lists or into a list of entries.
-pub reading_succeeds : (file : List ℕ) (room : ℕ) {r : Reading} → r ≡ reading.reading file room → (reading.returned r).number ≡ 0 ↔ r.verdict ≡ verdict.Taken
+pub reading_succeeds : (file : List ℕ) (room : ℕ) {r : Result Answer Refusal} → r ≡ reading.reading file room
+    → (reading.returned r).number ≡ 0 ↔ ((a : Answer) × (r ≡ Ok a))
 unfolding reading.reading
 reading_succeeds file room e = rw e (go (reading.read_tests file room) (read_numbered file room))
   where
     go : (p : Passed) → Numbered p
-        → (reading.returned (reading.answered (content_in file) p)).number ≡ 0 ↔ (reading.answered (content_in file) p).verdict ≡ verdict.Taken
-    go (Ok here) a = (λ z. refl, λ t. refl)
-    go (Err why) a = (λ z. absurd (omega (arith, z, a.above refl)), λ t. absurd (let z : ◌≡◌ {A = ℕ} 0 1 = cc in omega arith))
+        → (reading.returned (reading.answered (content_in file) p)).number ≡ 0 ↔ ((a : Answer) × (reading.answered (content_in file) p ≡ Ok a))
+    go (Ok here) a = (λ z. (answer_of (content_in file), refl), λ t. refl)
+    go (Err why) a = (λ z. absurd (omega (arith, z, a.above refl)), λ (v, t). absurd (let z : ◌≡◌ {A = ℕ} 0 1 = cc in omega arith))
 
-pub read_succeeds : {file cs us ds : List ℕ} {r : Reading} {cs' us' ds' : List ℕ} → reading.Reads file cs us ds r cs' us' ds'
-    → (reading.returned r).number ≡ 0 ↔ r.verdict ≡ verdict.Taken
+pub read_succeeds : {file cs us ds : List ℕ} {r : Result Answer Refusal} {cs' us' ds' : List ℕ} → reading.Reads file cs us ds r cs' us' ds'
+    → (reading.returned r).number ≡ 0 ↔ ((a : Answer) × (r ≡ Ok a))
 read_succeeds {file} {cs} {us} {ds} x = reading_succeeds file (reading.listed cs us ds) x.answers
 
 -- Writing, from either.

@@ -11,8 +11,7 @@ use Rattle.score.specs.Operation.{Scores}
 use Rattle.matrix.specs.Matrix.{matrix_of}
 use Rattle.matrix.specs.Check.{checked, Checks}
 use Rattle.matrix.proofs.Taken.{same_matrix_same_file}
-use Rattle.answer.specs.declared.Reading.{Reading}
-use Rattle.answer.specs.declared.Verdict.TheVariants as verdict
+use Rattle.answer.specs.declared.Answer.{Answer}
 use Rattle.answer.specs.Content.{Content, content_in, content_of, file_of}
 use Rattle.answer.specs.Reading.{file_tests, read_tests, reading, listed, filled, Reads}
 use Rattle.answer.specs.Writing.{Writes, put}
@@ -58,15 +57,15 @@ one_split {file} {S} {ws} x y =
     let same = x.answers ∙ sym y.answers in
     (same, x.workspace ∙ ap (λ (r : Result Split Refusal). split.workspace_after file r ws) same ∙ sym y.workspace)
 
-pub one_read : {file cs us ds : List ℕ} {r r' : Reading} {cs' us' ds' cs'' us'' ds'' : List ℕ} → Reads file cs us ds r cs' us' ds' → Reads file cs us ds r' cs'' us'' ds''
+pub one_read : {file cs us ds : List ℕ} {r r' : Result Answer Refusal} {cs' us' ds' cs'' us'' ds'' : List ℕ} → Reads file cs us ds r cs' us' ds' → Reads file cs us ds r' cs'' us'' ds''
     → (r ≡ r') × (cs' ≡ cs'') × (us' ≡ us'') × (ds' ≡ ds'')
 one_read {file} {cs} {us} {ds} x y =
     let c = content_in file in
     let same = x.answers ∙ sym y.answers in (
       same,
-      x.columns_after ∙ ap (λ (r : Reading). filled r.verdict c.columns cs) same ∙ sym y.columns_after,
-      x.raised_after ∙ ap (λ (r : Reading). filled r.verdict c.raised us) same ∙ sym y.raised_after,
-      x.lowered_after ∙ ap (λ (r : Reading). filled r.verdict c.lowered ds) same ∙ sym y.lowered_after,
+      x.columns_after ∙ ap (λ (r : Result Answer Refusal). filled r c.columns cs) same ∙ sym y.columns_after,
+      x.raised_after ∙ ap (λ (r : Result Answer Refusal). filled r c.raised us) same ∙ sym y.raised_after,
+      x.lowered_after ∙ ap (λ (r : Result Answer Refusal). filled r c.lowered ds) same ∙ sym y.lowered_after,
     )
 
 pub one_write : {c : Content} {entries : ℕ} {out : List ℕ} {r r' : Result ℕ Refusal} {out' out'' : List ℕ} → Writes c entries out r out' → Writes c entries out r' out'' → (r ≡ r') × (out' ≡ out'')
@@ -81,18 +80,18 @@ pub no_two_matrix_files : {file file' : List ℕ} {n m n' m' : ℕ} → File fil
 no_two_matrix_files = same_matrix_same_file
 
 -- An answer file that reading takes passes the tests of its file.
-accepted : {file cs us ds : List ℕ} {r : Reading} {cs' us' ds' : List ℕ} → Reads file cs us ds r cs' us' ds' → r.verdict ≡ verdict.Taken → (next : Cursor) × (Ok next ≡ file_tests file)
+accepted : {file cs us ds : List ℕ} {r : Result Answer Refusal} {a : Answer} {cs' us' ds' : List ℕ} → Reads file cs us ds r cs' us' ds' → r ≡ Ok a → (next : Cursor) × (Ok next ≡ file_tests file)
 unfolding reading read_tests
 accepted {file} {cs} {us} {ds} x t =
-    let (here, p) = took (content_in file) (read_tests file (listed cs us ds)) (sym (ap (λ (r : Reading). r.verdict) x.answers) ∙ t) in
+    let (here, p) = took (content_in file) (read_tests file (listed cs us ds)) (sym x.answers ∙ t) in
     let (next, passed, rest) = through (file_tests file) p in
     (next, passed)
 
 -- Two answer files from which reading takes the same content, a value and a list, are the same.
-pub no_two_answer_files : {file file₁ cs us ds cs₁ us₁ ds₁ : List ℕ} {r r₁ : Reading} {cs' us' ds' cs₁' us₁' ds₁' : List ℕ} → File file → File file₁
-    → Reads file cs us ds r cs' us' ds' → Reads file₁ cs₁ us₁ ds₁ r₁ cs₁' us₁' ds₁' → r.verdict ≡ verdict.Taken → r₁.verdict ≡ verdict.Taken
-    → content_of r.answer cs' us' ds' ≡ content_of r₁.answer cs₁' us₁' ds₁' → file ≡ file₁
+pub no_two_answer_files : {file file₁ cs us ds cs₁ us₁ ds₁ : List ℕ} {r r₁ : Result Answer Refusal} {a a₁ : Answer} {cs' us' ds' cs₁' us₁' ds₁' : List ℕ} → File file → File file₁
+    → Reads file cs us ds r cs' us' ds' → Reads file₁ cs₁ us₁ ds₁ r₁ cs₁' us₁' ds₁' → r ≡ Ok a → r₁ ≡ Ok a₁
+    → content_of a cs' us' ds' ≡ content_of a₁ cs₁' us₁' ds₁' → file ≡ file₁
 no_two_answer_files f f₁ x y t t₁ e =
-    let (a, p) = accepted x t in
-    let (b, q) = accepted y t₁ in
+    let (here, p) = accepted x t in
+    let (there, q) = accepted y t₁ in
     same_content_same_file f f₁ p q (sym (read_content f x t) ∙ e ∙ read_content f₁ y t₁)

@@ -6,9 +6,7 @@ use Prim.Native.Nat.{ℕ}
 use lib.IntN.{ℤ}
 use Rattle.matrix.specs.Check as check
 use Rattle.record.specs.declared.refusal.Refusal.{Refusal}
-use Rattle.answer.specs.declared.Reading.{Reading}
-use Rattle.answer.specs.declared.Verdict.{Verdict}
-use Rattle.answer.specs.declared.Verdict.TheVariants as verdict
+use Rattle.answer.specs.declared.Answer.{Answer}
 use Rattle.answer.specs.Content.{Content, content_in, answer_of}
 use Rattle.answer.specs.Reading as reading
 use Rattle.answer.specs.Writing as writing
@@ -43,27 +41,11 @@ pub refused_score : {matrix answer : List ℕ} {r : Result Sums Refusal} → sco
 refused_score {r = Ok it} x some = absurd (some refl)
 refused_score {r = Err why} x some = (refl, refl)
 
--- Reading, into three lists or into a list of entries: the value is the empty one, 0 in each of its numbers and places.
-pub refused_reading : (file : List ℕ) (room : ℕ) {r : Reading} → r ≡ reading.reading file room → (reading.returned r).number ≢ 0
-    → (why : Refusal) × (r.verdict ≡ verdict.Refused why) × (r.answer ≡ answer_of reading.empty)
-unfolding reading.reading
-refused_reading file room = go (reading.read_tests file room)
-  where
-    go : (p : Passed) {r : Reading} → r ≡ reading.answered (content_in file) p → (reading.returned r).number ≢ 0
-        → (why : Refusal) × (r.verdict ≡ verdict.Refused why) × (r.answer ≡ answer_of reading.empty)
-    go (Ok here) e some = absurd (some (ap (λ (x : Reading). (reading.returned x).number) e))
-    go (Err why) e some = (why, ap (λ (x : Reading). x.verdict) e, ap (λ (x : Reading). x.answer) e)
-
-pub refused_read : {file cs us ds : List ℕ} {r : Reading} {cs' us' ds' : List ℕ} → reading.Reads file cs us ds r cs' us' ds' → (reading.returned r).number ≢ 0
-    → (r.answer ≡ answer_of reading.empty) × (cs' ≡ cs) × (us' ≡ us) × (ds' ≡ ds)
-refused_read {file} {cs} {us} {ds} x some =
-    let c = content_in file in
-    let (why, e, none) = refused_reading file (reading.listed cs us ds) x.answers some in (
-      none,
-      x.columns_after ∙ ap (λ (v : Verdict). reading.filled v c.columns cs) e,
-      x.raised_after ∙ ap (λ (v : Verdict). reading.filled v c.raised us) e,
-      x.lowered_after ∙ ap (λ (v : Verdict). reading.filled v c.lowered ds) e,
-    )
+-- Reading: the value told is the empty one, 0 in each of its numbers and places.
+pub refused_read : {file cs us ds : List ℕ} {r : Result Answer Refusal} {cs' us' ds' : List ℕ} → reading.Reads file cs us ds r cs' us' ds' → (reading.returned r).number ≢ 0
+    → ((reading.returned r).answer ≡ answer_of reading.empty) × (cs' ≡ cs) × (us' ≡ us) × (ds' ≡ ds)
+refused_read {r = Ok a} x some = absurd (some refl)
+refused_read {r = Err why} x some = (refl, x.columns_after, x.raised_after, x.lowered_after)
 
 pub refused_write : {c : Content} {entries : ℕ} {out : List ℕ} {r : Result ℕ Refusal} {out' : List ℕ} → writing.Writes c entries out r out' → (writing.returned r).number ≢ 0
     → ((writing.returned r).size ≡ 0) × (out' ≡ out)

@@ -78,7 +78,7 @@ fn flip(planes: &[u64; 72], it: Column, group: u64, side: u64) -> Column
     let a = mass_common(planes, it.ones, side);
     let b = mass_common(planes, it.ones, rest);
     let z = mass_common(planes, it.zeros, group);
-    if z <= taxa::least(a, b) {
+    if z <= a.min(b) {
         return raise(it, group);
     }
     if a <= b {

@@ -28,6 +28,10 @@ use Rattle.tree.specs.declared.Built.{Built}
 
 -- ---- what is lent
 
+-- Nothing is too short.
+abbrev long_enough : Result ⊤ Refusal
+long_enough = Ok tt
+
 module _ (space needed room wanted : ℕ) where
   pub short_space : space < needed → lent_checked space needed room wanted ≡ Err (refused reason.Workspace 0)
   unfolding lent_checked
@@ -37,7 +41,7 @@ module _ (space needed room wanted : ℕ) where
   unfolding lent_checked
   short_room l k = rw (le-ltb _ _ l, lt-ltb _ _ k)
 
-  pub none_short : needed ≤ space → wanted ≤ room → lent_checked space needed room wanted ≡ Ok tt
+  pub none_short : needed ≤ space → wanted ≤ room → lent_checked space needed room wanted ≡ long_enough
   unfolding lent_checked
   none_short l k = rw (le-ltb _ _ l, le-ltb _ _ k)
 
@@ -46,7 +50,7 @@ module _ (space needed room wanted : ℕ) where
     pub few : refusal_number why.reason ≤ 10
     pub whatever : (r : Result Built Refusal) → Err why ≡ cond (ltb space needed) (Err (refused reason.Workspace 0)) (cond (ltb room wanted) (Err (refused reason.Room 0)) r)
 
-  why_in : Refusal → Result ⊤ Refusal → Refusal
+  abbrev why_in : Refusal → Result ⊤ Refusal → Refusal
   why_in other (Ok t) = other
   why_in other (Err why) = why
 
@@ -55,27 +59,27 @@ module _ (space needed room wanted : ℕ) where
   lacks_of {why} = go (ltb space needed) (ltb room wanted) refl refl
     where
       go : (a b : Bool) → ltb space needed ≡ a → ltb room wanted ≡ b
-          → Err why ≡ cond a (Err (refused reason.Workspace 0)) (cond b (Err (refused reason.Room 0)) (Ok tt)) → Lacks why
+          → Err why ≡ cond a (Err (refused reason.Workspace 0)) (cond b (Err (refused reason.Room 0)) long_enough) → Lacks why
       go true b p q e = let same : why ≡ refused reason.Workspace 0 = ap (why_in why) e in rw same (record { few = lit≤ tt; whatever = λ r. rw p })
       go false true p q e = let same : why ≡ refused reason.Room 0 = ap (why_in why) e in rw same (record { few = lit≤ tt; whatever = λ r. rw (p, q) })
       go false false p q e = absurd (let z : ◌≡◌ {A = ℕ} 0 1 = cc in omega arith)
 
-  pub enough : Ok tt ≡ lent_checked space needed room wanted → (needed ≤ space) × (wanted ≤ room)
+  pub enough : long_enough ≡ lent_checked space needed room wanted → (needed ≤ space) × (wanted ≤ room)
   unfolding lent_checked
   enough = go (ltb space needed) (ltb room wanted) refl refl
     where
       go : (a b : Bool) → ltb space needed ≡ a → ltb room wanted ≡ b
-          → Ok tt ≡ cond a (Err (refused reason.Workspace 0)) (cond b (Err (refused reason.Room 0)) (Ok tt)) → (needed ≤ space) × (wanted ≤ room)
+          → long_enough ≡ cond a (Err (refused reason.Workspace 0)) (cond b (Err (refused reason.Room 0)) long_enough) → (needed ≤ space) × (wanted ≤ room)
       go true b p q e = absurd (let z : ◌≡◌ {A = ℕ} 0 1 = cc in omega arith)
       go false true p q e = absurd (let z : ◌≡◌ {A = ℕ} 0 1 = cc in omega arith)
       go false false p q e = (omega (arith, ltb-false space needed p), omega (arith, ltb-false room wanted q))
 
 -- The same, where what is asked for was told in other words.
-module _ {space room needed wanted ones most : ℕ} (n : needed ≡ ones) (w : wanted ≡ most) where
+module _ (space room : ℕ) {needed wanted ones most : ℕ} (n : needed ≡ ones) (w : wanted ≡ most) where
   pub lent_lacks : {why : Refusal} → Err why ≡ lent_checked space needed room wanted → Err why ≡ lent_checked space ones room most
   lent_lacks e = e ∙ (λ i. lent_checked space (n i) room (w i))
 
-  pub lent_enough : Ok tt ≡ lent_checked space needed room wanted → (ones ≤ space) × (most ≤ room)
+  pub lent_enough : long_enough ≡ lent_checked space needed room wanted → (ones ≤ space) × (most ≤ room)
   lent_enough e = enough space ones room most (e ∙ (λ i. lent_checked space (n i) room (w i)))
 
 module _ (file : List ℕ) (space room wanted : ℕ) (r : Result Built Refusal) where

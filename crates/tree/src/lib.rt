@@ -59,7 +59,13 @@ fn answer_room(n: u16, m: u16) -> usize
 }
 
 // A matrix that is taken, built: the refusals of the workspace and of the output, and else the tree and then its flips.
-fn build_taken(file: &[u8], n: u16, m: u16, workspace: &mut [i32], out: &mut [u8]) -> Result<Built, Refusal>
+fn build_taken(
+    file: &[u8],
+    n: u16,
+    m: u16,
+    workspace: &mut [i32],
+    out: &mut [u8],
+) -> Result<Built, Refusal>
     requires { Ok (shape n m) ≡ checked file.now }
     ensures { (result ≡ answered (Ok (shape n m)) file.now (length workspace.old) (length out.old))
         × (out.new ≡ output_after file.now result out.old)
@@ -82,7 +88,13 @@ pub fn build(file: &[u8], workspace: &mut [i32], out: &mut [u8]) -> Result<Built
 }
 
 // A matrix that is taken: the refusals of the workspace and of the output, and else its tree.
-fn tree_taken(file: &[u8], n: u16, m: u16, workspace: &mut [i32], out: &mut [u8]) -> Result<Built, Refusal>
+fn tree_taken(
+    file: &[u8],
+    n: u16,
+    m: u16,
+    workspace: &mut [i32],
+    out: &mut [u8],
+) -> Result<Built, Refusal>
     requires { Ok (shape n m) ≡ checked file.now }
     ensures { (result ≡ tree_answered (Ok (shape n m)) file.now (length workspace.old) (length out.old))
         × (out.new ≡ tree_output file.now result out.old)
@@ -134,7 +146,8 @@ fn flips_taken(
         return Err(Reason::Differ.at(0));
     }
     let needed = columns::one_entries(file, m as usize);
-    check_lent(workspace.len(), needed, out.len(), answer_room(n, m))?;
+    let wanted = answer_room(n, m);
+    check_lent(workspace.len(), needed, out.len(), wanted)?;
     let mut ones = [0u64; 256];
     let mut zeros = [0u64; 256];
     let own = groups::grow_tree(file, n, m, needed, workspace, &mut ones, &mut zeros);
@@ -145,7 +158,12 @@ fn flips_taken(
 }
 
 // The operation "flips": a matrix and its tree, as an answer file without flips, to the whole answer.
-pub fn flips(file: &[u8], tree: &[u8], workspace: &mut [i32], out: &mut [u8]) -> Result<Built, Refusal>
+pub fn flips(
+    file: &[u8],
+    tree: &[u8],
+    workspace: &mut [i32],
+    out: &mut [u8],
+) -> Result<Built, Refusal>
     ensures { GivesFlips file.now tree.now workspace.old out.old result workspace.new out.new }
 {
     let Shape { n, m } = matrix::check(file)?;

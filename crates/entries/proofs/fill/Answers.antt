@@ -14,7 +14,6 @@ loop-k-preserved c =
     let it = zipped_at l.k a.columns.now a.raised.now a.lowered.now (omega arith) (omega arith) (omega arith) in
     let more : suc l.k ≡ l.k + 1 = omega arith in
     let long = long_zipped a.count a.columns.now a.raised.now a.lowered.now (omega arith) (omega arith) (omega arith) in (
-      omega arith,
-      simp length-set l.invariant.1,
-      rw (l.invariant.2, it) (rw more at (set_next {X = Flip} l.k (zipped a.columns.now a.raised.now a.lowered.now) a.list.now blank (omega (arith, long)) (omega arith))),
+      simp length-set l.invariant.0,
+      rw (l.invariant.1, it) (rw more at (set_next {X = Flip} l.k (zipped a.columns.now a.raised.now a.lowered.now) a.list.now blank (omega (arith, long)) (omega arith))),
     )

@@ -6,15 +6,15 @@ use Rattle.entries.proofs.Reading.{in_parts}
 use Rattle.entries.proofs.read_parts.Goals as goal
 
 pub slice_bounds-read-end-2 : goal.slice_bounds-read-end-2
-slice_bounds-read-end-2 c = sym (length-take-le _ _ (omega (arith, c.requires.0, c.requires.1.0, c.requires.1.1, c.at_most_256-room.ensures)))
+slice_bounds-read-end-2 c = sym (length-take-le _ _ (omega (arith, c.requires.0, c.requires.1, c.requires.2, c.min-room.ensures)))
 
 pub slice_bounds-read-end-4 : goal.slice_bounds-read-end-4
-slice_bounds-read-end-4 c = sym (length-take-le _ _ (omega (arith, c.requires.0, c.requires.1.0, c.requires.1.1, c.at_most_256-room.ensures)))
+slice_bounds-read-end-4 c = sym (length-take-le _ _ (omega (arith, c.requires.0, c.requires.1, c.requires.2, c.min-room.ensures)))
 
 pub slice_bounds-read-end-6 : goal.slice_bounds-read-end-6
-slice_bounds-read-end-6 c = sym (length-take-le _ _ (omega (arith, c.requires.0, c.requires.1.0, c.requires.1.1, c.at_most_256-room.ensures)))
+slice_bounds-read-end-6 c = sym (length-take-le _ _ (omega (arith, c.requires.0, c.requires.1, c.requires.2, c.min-room.ensures)))
 
 pub returns : goal.returns
 returns c =
-    rw c.at_most_256-room.ensures (in_parts c.args.file.now c.args.entries c.args.columns.now c.args.raised.now c.args.lowered.now c.requires.0 c.requires.1.0 c.requires.1.1
-    (rw c.at_most_256-room.ensures at c.read.ensures))
+    rw c.min-room.ensures (in_parts c.args.file.now c.args.entries c.args.columns.now c.args.raised.now c.args.lowered.now c.requires.0 c.requires.1 c.requires.2
+    (rw c.min-room.ensures at c.read.ensures))

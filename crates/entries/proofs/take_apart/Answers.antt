@@ -11,11 +11,10 @@ loop-k-preserved c =
     let a = c.args in
     let l = c.loop-k in
     let more : suc l.k ≡ l.k + 1 = omega arith in (
-      omega arith,
+      simp length-set l.invariant.0,
       simp length-set l.invariant.1,
       simp length-set l.invariant.2,
-      simp length-set l.invariant.3,
-      rw l.invariant.4 (rw more at (set_copied (λ (f : Flip). f.column) l.k a.list.now a.columns.now (omega arith) (omega arith))),
-      rw l.invariant.5 (rw more at (set_copied (λ (f : Flip). f.raised) l.k a.list.now a.raised.now (omega arith) (omega arith))),
-      rw l.invariant.6 (rw more at (set_copied (λ (f : Flip). f.lowered) l.k a.list.now a.lowered.now (omega arith) (omega arith))),
+      rw (l.invariant.3, c.from.ensures) (rw more at (set_copied (λ (f : Flip). f.column) l.k a.list.now a.columns.now (omega arith) (omega arith))),
+      rw l.invariant.4 (rw more at (set_copied (λ (f : Flip). f.raised) l.k a.list.now a.raised.now (omega arith) (omega arith))),
+      rw l.invariant.5 (rw more at (set_copied (λ (f : Flip). f.lowered) l.k a.list.now a.lowered.now (omega arith) (omega arith))),
     )

@@ -5,4 +5,4 @@ use Rattle.entries.proofs.write_answer.Goals as goal
 pub returns : goal.returns
 returns c =
     let t = c.take_apart.ensures in
-    parts_written c.args.answer c.args.list.now _ _ _ c.args.out.now (rw (t.0, t.1.0, t.1.1, c.at_most_256-count.ensures) at c.write_parts.ensures)
+    parts_written c.args.answer c.args.list.now _ _ _ c.args.out.now (rw (t.columns_after, t.raised_after, t.lowered_after, c.min-count.ensures) at c.write_parts.ensures)

@@ -1,5 +1,5 @@
 -- `newick::read_with` meets its contract.
-use Rattle.newick.proofs.Book.{ended_well, ended_ill}
+use Rattle.newick.proofs.Places.{ended_well, ended_ill}
 use Rattle.newick.proofs.Finding.{found, told}
 use Rattle.newick.proofs.read_with.Goals as goal
 

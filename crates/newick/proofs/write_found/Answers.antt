@@ -12,11 +12,6 @@ returns-then-names-list c =
     let pre = c.requires in
     rw c.no_room-then-names-list.ensures (short_list pre _ _ (search rules) (omega (arith, c.list_length-list.ensures _ _ pre.placed)))
 
-pub put_list-requires : goal.put_list-requires
-put_list-requires c =
-    let pre = c.requires in
-    record { placed = (pre.placed, pre.placed.short); n_in_bounds = omega (arith, c.list_length-list.ensures _ _ pre.placed) }
-
 pub returns : goal.returns
 returns c =
     let pre = c.requires in

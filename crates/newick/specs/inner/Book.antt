@@ -8,38 +8,10 @@ use Rattle.grammar.specs.Verdict.{accepted, refused}
 use Rattle.grammar.specs.inner.Shape.{Phase, beginning, ended}
 use Rattle.grammar.specs.inner.Standing.{Run, piece, Standing}
 use Rattle.ledger.specs.inner.Ledger.{Ledger, Opened, unwritten, note, outcome}
+use Rattle.newick.specs.declared.Book.{Book}
 use Rattle.newick.specs.declared.Reading.{Reading}
 use Rattle.newick.specs.declared.Stepped.{Stepped}
 use Rattle.newick.specs.inner.Names.{Placed, names_in}
-
--- The reader's lists: the names' places, the columns, and the open brackets.
-pub record Book : Type 0 where
-  pub starts : List ℕ
-  pub sizes : List ℕ
-  pub ones : List ℕ
-  pub zeros : List ℕ
-  pub index : List ℕ
-  pub before : List ℕ
-  pub filled : List Bool
-
-abbrev pub book : List ℕ → List ℕ → List ℕ → List ℕ → List ℕ → List ℕ → List Bool → Book
-book starts sizes ones zeros index before filled =
-    record { starts = starts; sizes = sizes; ones = ones; zeros = zeros; index = index; before = before; filled = filled }
-
--- The book with other places of names.
-abbrev pub with_names : Book → List ℕ → List ℕ → Book
-with_names k starts sizes =
-    record { starts = starts; sizes = sizes; ones = k.ones; zeros = k.zeros; index = k.index; before = k.before; filled = k.filled }
-
--- The book with other 1-sets and open brackets.
-abbrev pub with_brackets : Book → List ℕ → List ℕ → List ℕ → List Bool → Book
-with_brackets k ones index before filled =
-    record { starts = k.starts; sizes = k.sizes; ones = ones; zeros = k.zeros; index = index; before = before; filled = filled }
-
--- The book with other columns.
-abbrev pub with_columns : Book → List ℕ → List ℕ → Book
-with_columns k ones zeros =
-    record { starts = k.starts; sizes = k.sizes; ones = ones; zeros = zeros; index = k.index; before = k.before; filled = k.filled }
 
 -- The first d open brackets, the last first.
 unfoldable pub brackets_in : List ℕ → List ℕ → ℕ → List Opened
@@ -64,15 +36,15 @@ ledger_in text k r = record {
 }
 
 -- Room for 64 open brackets and 256 columns, the tree's clades among them; and each open bracket is one that has opened.
-pub record Bracketed (ones index before : List ℕ) (filled : List Bool) (columns opened depth : ℕ) : Type 0 where
-  pub ones_room : length ones ≡ 256
-  pub index_room : length index ≡ 64
-  pub before_room : length before ≡ 64
-  pub filled_room : length filled ≡ 64
-  pub nested : depth ≤ 64
-  pub columns_fit : columns ≤ 256
-  pub clades_fit : columns + opened ≤ 257
-  pub has_opened : (j : ℕ) → j < depth → get_or index j 0 < opened
+pub record Bracketed (k : Book) (r : Reading) : Type 0 where
+  pub ones_room : length k.ones ≡ 256
+  pub index_room : length k.index ≡ 64
+  pub before_room : length k.before ≡ 64
+  pub filled_room : length k.filled ≡ 64
+  pub nested : r.depth ≤ 64
+  pub columns_fit : r.columns ≤ 256
+  pub clades_fit : r.columns + r.opened ≤ 257
+  pub has_opened : (j : ℕ) → j < r.depth → get_or k.index j 0 < r.opened
 
 -- A subtree has ended, or must begin.
 abbrev pub phase_of : Bool → Phase
@@ -82,35 +54,17 @@ phase_of false = beginning
 -- Between tokens: what is kept is the ledger of what was read, and what is left comes to what the whole text does.
 pub record Holds (text : List ℕ) (k : Book) (r : Reading) : Type 0 where
   pub placed : Placed text k.starts k.sizes r.taxa
-  pub bracketed : Bracketed k.ones k.index k.before k.filled r.columns r.opened r.depth
+  pub bracketed : Bracketed k r
   pub zeros_room : length k.zeros ≡ 256
   pub stands : Standing note unwritten text r.at (phase_of r.ended) r.finished (filled_in k.filled r.depth) (ledger_in text k r)
 
 -- The same reading at another place.
 abbrev pub standing : Reading → ℕ → Reading
-standing r place = record {
-  at = place;
-  ended = r.ended;
-  finished = r.finished;
-  taxa = r.taxa;
-  columns = r.columns;
-  here = r.here;
-  opened = r.opened;
-  depth = r.depth;
-}
+standing r place = record r { at = place }
 
 -- Behind a name, taxon i, that ends at a place; there are so many taxa then.
 abbrev pub with_name : Reading → ℕ → ℕ → ℕ → Reading
-with_name r end taxa i = record {
-  at = end;
-  ended = true;
-  finished = r.finished;
-  taxa = taxa;
-  columns = r.columns;
-  here = r.here ∪ 2 ^ i;
-  opened = r.opened;
-  depth = r.depth;
-}
+with_name r end taxa i = record r { at = end; ended = true; taxa = taxa; here = r.here ∪ 2 ^ i }
 
 -- The 1-sets with the clade of a bracket of the tree, by opening; the first, the root's, has no place.
 unfoldable pub clade_put : List ℕ → ℕ → ℕ → ℕ → List ℕ

@@ -1,13 +1,10 @@
 -- `tree::build_taken` meets its contract: each return is a row of its table.
 use native.Mathlib.Omega.{arith}
-use mathlib.Core.Path.{◌≡◌, refl, ◌∙◌}
+use mathlib.Core.Path.{refl}
 use lib.ListN.{length}
 use Rattle.record.proofs.Passing.{handed_on}
 use Rattle.record.specs.Bytes.{File}
-use Rattle.method.specs.Tree.{one_entries}
-use Rattle.split.specs.Columns.{matrix_in}
 use Rattle.split.proofs.Soundness.{few_columns, can_load}
-use Rattle.tree.specs.Build.{room_for}
 use Rattle.tree.specs.inner.Grow.{Growable}
 use Rattle.tree.proofs.Building.{whole_written, whole_is, answers_all, some_taxa}
 use Rattle.tree.proofs.Rows.{lent_enough, lent_lacks, build_lacks, build_row, output_left, workspace_left}
@@ -25,20 +22,20 @@ answer_room-requires c = let f : File c.args.file.now = record { byte = λ i. om
 pub returns-in_err-check_lent : goal.returns-in_err-check_lent
 returns-in_err-check_lent c =
     let refused = handed_on _ _ c.from_residual.ensures.1 in
-    let lacks = lent_lacks c.one_entries-needed.ensures c.answer_room.ensures c.in_err-check_lent.ensures in
+    let lacks = lent_lacks _ _ c.one_entries-needed.ensures c.answer_room.ensures c.in_err-check_lent.ensures in
     rw refused (build_lacks _ _ _ _ _ lacks, output_left _ _ _, workspace_left _ _ _)
 
 pub grow_tree-tree-requires : goal.grow_tree-tree-requires
 grow_tree-tree-requires c =
     let a = c.args in
-    let lent = lent_enough c.one_entries-needed.ensures c.answer_room.ensures c.in_ok-check_lent.ensures in
+    let lent = lent_enough _ _ c.one_entries-needed.ensures c.answer_room.ensures c.in_ok-check_lent.ensures in
     (record { taken = c.requires; places = lent.0 }, c.one_entries-needed.ensures)
 
 pub returns : goal.returns
 returns c =
     let a = c.args in
     let f : File a.file.now = record { byte = λ i. omega (arith, c.type_inv.file i) } in
-    let (long, fits) = lent_enough c.one_entries-needed.ensures c.answer_room.ensures c.in_ok-check_lent.ensures in
+    let (long, fits) = lent_enough _ _ c.one_entries-needed.ensures c.answer_room.ensures c.in_ok-check_lent.ensures in
     let growable : Growable a.file.now a.n a.m (length a.workspace.now) = record { taken = c.requires; places = long } in
     let grown = c.grow_tree-tree.ensures in
     build_row _ _ _ _ _ _ _ long grown.1 fits (answers_all c.write_whole.ensures (whole_is grown.0) (whole_written f growable _ fits))

@@ -1,5 +1,4 @@
 -- `tree::flips` meets its contract: the matrix's refusal, the tree file's, or what two files that were read come to.
-use mathlib.Core.Path.{sym, ◌∙◌}
 use Rattle.record.proofs.Passing.{handed_on}
 use Rattle.answer.proofs.Outcomes.{laid}
 use Rattle.tree.proofs.FlipsRows.{matrix_refused, tree_refused, both_read}

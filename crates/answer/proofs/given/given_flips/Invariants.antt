@@ -1,6 +1,6 @@
 -- `answer::given::given_flips` meets its contract. The invariant: those passed lead here, and the floor is theirs.
 use mathlib.Core.Path.{◌≡◌}
-use Prim.Native.Nat.{◌+◌, ◌*◌, ◌-◌, ◌≤◌}
+use Prim.Native.Nat.{◌+◌, ◌*◌}
 use Rattle.answer.specs.Rules.{floor_of}
 use Rattle.answer.specs.Tests.{as_given, walk, flips_test}
 use Rattle.answer.proofs.given.given_flips.Given as goal

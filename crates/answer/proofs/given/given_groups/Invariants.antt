@@ -1,6 +1,6 @@
 -- `answer::given::given_groups` meets its contract. The invariant: those passed lead here.
 use mathlib.Core.Path.{◌≡◌}
-use Prim.Native.Nat.{◌+◌, ◌*◌, ◌-◌, ◌≤◌}
+use Prim.Native.Nat.{◌+◌, ◌*◌}
 use Rattle.answer.specs.Tests.{as_given, walk, group_test}
 use Rattle.answer.proofs.given.given_groups.Given as goal
 use Rattle.std.specs.Prelude.{Ok}

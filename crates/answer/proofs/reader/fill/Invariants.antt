@@ -1,6 +1,5 @@
 -- `answer::reader::fill` meets its contract. The invariant: the entries filled so far stand in front of each part.
 use mathlib.Core.Path.{◌≡◌}
-use Prim.Native.Nat.{◌-◌, ◌≤◌}
 use lib.ListN.{length}
 use Rattle.record.specs.Bytes.{over}
 use Rattle.answer.specs.Content.{columns_from, raised_from, lowered_from}

@@ -1,7 +1,7 @@
 -- `answer::reader::pass_flips` meets its contract. The invariant: those passed lead here, and the floor is theirs.
 use mathlib.Core.Path.{◌≡◌}
 use mathlib.Core.List.{List}
-use Prim.Native.Nat.{ℕ, ◌+◌, ◌*◌, ◌-◌, ◌≤◌}
+use Prim.Native.Nat.{ℕ, ◌+◌, ◌*◌}
 use Rattle.record.specs.declared.Cursor.{Cursor}
 use Rattle.answer.specs.Content.{columns_from, raised_from, lowered_from}
 use Rattle.answer.specs.Rules.{floor_of}
@@ -14,4 +14,4 @@ abbrev pub one : List ℕ → ℕ → ℕ → ℕ → Cursor → ℕ → Cursor 
 one file n m flips from = flips_test (in_file file) n m (columns_from file from.at flips) (raised_from file from.at flips) (lowered_from file from.at flips)
 
 abbrev pub invariant-loop : goal.invariant-loop
-invariant-loop l = (l.here.at ≡ l.initial.here.at + 22 * l._) × (l.floor ≡ floor_of (columns_from l.file l.initial.here.at l.flips) l._) × (Ok l.here ≡ walk (one l.file l.n l.m l.flips l.initial.here) l._ l.initial.here)
+invariant-loop l = (l.here.at ≡ l.initial.here.at + 22 * l.counter) × (l.floor ≡ floor_of (columns_from l.file l.initial.here.at l.flips) l.counter) × (Ok l.here ≡ walk (one l.file l.n l.m l.flips l.initial.here) l.counter l.initial.here)

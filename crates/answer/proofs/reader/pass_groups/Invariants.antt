@@ -1,6 +1,6 @@
 -- `answer::reader::pass_groups` meets its contract. The invariant: those passed lead here, and stand in `taxa`.
 use mathlib.Core.Path.{◌≡◌}
-use Prim.Native.Nat.{◌+◌, ◌*◌, ◌-◌, ◌≤◌}
+use Prim.Native.Nat.{◌+◌, ◌*◌}
 use lib.ListN.{length}
 use Rattle.record.specs.Bytes.{over}
 use Rattle.answer.specs.Content.{taxa_in}

@@ -1,6 +1,5 @@
 -- `answer::reader::taxa_in` meets its contract. The invariant: those read so far stand in front.
 use mathlib.Core.Path.{◌≡◌}
-use Prim.Native.Nat.{◌-◌, ◌≤◌}
 use lib.ListN.{length}
 use Rattle.record.specs.Bytes.{over}
 use Rattle.answer.specs.Content.{taxa_in}

@@ -1,8 +1,6 @@
 -- `answer::rules::judge` meets its contract: no fault is passed, any other is refused.
-use mathlib.Core.Path.{ap}
 use Rattle.answer.specs.Tests.{judge}
 use Rattle.answer.proofs.rules.judge.Goals as goal
-use Rattle.std.specs.Prelude.{Err}
 
 pub returns-in-None : goal.returns-in-None
 unfolding judge

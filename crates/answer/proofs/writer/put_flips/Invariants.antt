@@ -1,6 +1,5 @@
 -- `answer::writer::put_flips` meets its contract. The invariant: the records written so far stand at the front.
 use mathlib.Core.Path.{◌≡◌}
-use Prim.Native.Nat.{◌≤◌, ◌*◌, ◌-◌}
 use lib.ListN.{length}
 use Rattle.record.specs.Bytes.{over}
 use Rattle.answer.specs.Content.{run, flips_record}

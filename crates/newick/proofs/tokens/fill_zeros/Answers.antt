@@ -1,24 +1,13 @@
 -- `newick::tokens::fill_zeros` meets its contract. The invariant: the 0-sets so far are the tree's other names.
 use borrow.Author.Rules.{rules}
-use native.Mathlib.Omega.{arith}
-use mathlib.Core.Path.{◌≡◌}
 use lib.ListN.{take}
-use Rattle.newick.proofs.Book.{zero_more, no_zeros}
+use Rattle.newick.proofs.Columns.{zero_more}
 use Rattle.newick.proofs.tokens.fill_zeros.Goals as goal
 
 pub loop-c-preserved : goal.loop-c-preserved
 loop-c-preserved c =
     let l = c.loop-c in
     let a = c.args in
-    let kept = take a.first a.zeros.now in
-    let more = zero_more a.ones.now l.zeros kept a.here a.first l.c (search rules) (search rules) (search rules) l.invariant.3 in
+    let kept = take a.tree.columns a.zeros.now in
+    let more = zero_more a.ones.now l.zeros kept a.tree.here a.tree.columns l.c (search rules) (search rules) (search rules) l.invariant.3 in
     (search rules, search rules, search rules, rw c.difference.ensures more)
-
-pub returns : goal.returns
-returns c =
-    let l = c.loop-c in
-    let all : l.c ≡ c.args.end = omega (arith, c.requires) in
-    (rw (← all) l.invariant.3, l.invariant.2)
-
-pub loop-c-init : goal.loop-c-init
-loop-c-init c = let a = c.args in (search rules, search rules, search rules, no_zeros a.ones.now a.zeros.now a.here a.first)

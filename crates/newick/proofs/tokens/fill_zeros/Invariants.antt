@@ -8,7 +8,7 @@ use Rattle.newick.proofs.tokens.fill_zeros.Given as goal
 
 abbrev pub invariant-loop-c : goal.invariant-loop-c
 invariant-loop-c l =
-    (l.first ≤ l.c) × (l.c ≤ l.end) × (length l.zeros ≡ 256) × (take l.c l.zeros ≡ take l.first l.initial.zeros ++ map (λ x. l.here ∖ x) (take (l.c - l.first) (drop l.first l.ones)))
+    (l.tree.columns ≤ l.c) × (l.c ≤ l.end) × (length l.zeros ≡ 256) × (take l.c l.zeros ≡ take l.tree.columns l.initial.zeros ++ map (λ x. l.tree.here ∖ x) (take (l.c - l.tree.columns) (drop l.tree.columns l.ones)))
 
 abbrev pub decreases-loop-c : goal.decreases-loop-c
 decreases-loop-c l = l.end - l.c

@@ -1,9 +1,10 @@
 -- `newick::tokens::put_clade` meets its contract: the first bracket is the root.
-use Rattle.newick.proofs.Book.{put_root, put_other}
+use native.Mathlib.Omega.{arith}
+use Rattle.newick.proofs.Columns.{put_root, put_other}
 use Rattle.newick.proofs.tokens.put_clade.Goals as goal
 
-pub returns-then-i-eq0 : goal.returns-then-i-eq0
-returns-then-i-eq0 c = put_root _ _ _ _ c.if-i-eq0.true
+pub returns-else-i-gt0 : goal.returns-else-i-gt0
+returns-else-i-gt0 c = put_root _ _ _ _ (omega arith)
 
-pub returns : goal.returns
-returns c = put_other _ _ _ _ c.if-i-eq0.false
+pub returns-then-i-gt0 : goal.returns-then-i-gt0
+returns-then-i-gt0 c = put_other _ _ _ _ (λ e. absurd (omega arith))

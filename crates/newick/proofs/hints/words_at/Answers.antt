@@ -1,7 +1,0 @@
--- `newick::hints::words_at` meets its contract.
-use Rattle.newick.proofs.hints.words_at.Goals as goal
-
-pub returns : goal.returns
-returns c =
-    rw (c.u64_at-4.ensures, c.u64_at-3.ensures, c.lesser-2.ensures)
-    (rw (c.u64_at-2.ensures, c.lesser.ensures, c.u64_at.ensures))

@@ -1,5 +1,0 @@
--- `newick::tokens::behind_name` meets its contract.
-use Rattle.newick.proofs.tokens.behind_name.Goals as goal
-
-pub returns : goal.returns
-returns c = rw (c.union.ensures, c.single.ensures)
