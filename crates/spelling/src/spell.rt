@@ -12,7 +12,7 @@ use record::writer::put_bytes;
 fn wider(set: u64, group: u64, part: u64) -> u64
     ensures { result ≡ draw.wider set group part }
 {
-    if taxa::subset(part, group) & (taxa::subset(group, set) & (group != set)) {
+    if taxa::subset(part, group) && taxa::subset(group, set) && group != set {
         group
     } else {
         part
