@@ -26,7 +26,7 @@ some_count {x} f =
 pub loop-c-init : goal.loop-c-init
 loop-c-init c =
     let a = c.args in
-    (omega arith, table_start (joined_at a.ones.now a.zeros.now a.group) c.requires.4, table_start (limit_at a.weights.now a.planes.now a.zeros.now a.group) c.requires.5)
+    (omega arith, table_start (joined_at a.ones.now a.zeros.now a.group) (omega arith), table_start (limit_at a.weights.now a.planes.now a.zeros.now a.group) (omega arith))
 
 -- A weight below 2^16 for each of at most 64 x 127 specimens.
 pub overflow_mul-limits : goal.overflow_mul-limits

@@ -15,5 +15,5 @@ returns c =
     joins
     (omega arith)
     (rw (c.union.ensures, c.single.ensures))
-    (rw (c.union.ensures, c.single.ensures) (joined a.tree.now a.j a.i a.c a.stamp a.k p.3 p.0 a.met))
-    (long a.tree.now a.j a.i a.c a.stamp a.k p.3 p.0)
+    (rw (c.union.ensures, c.single.ensures) (joined a.tree.now a.j a.i a.c a.stamp a.k (omega arith) p.0 a.met))
+    (long a.tree.now a.j a.i a.c a.stamp a.k (omega arith) p.0)

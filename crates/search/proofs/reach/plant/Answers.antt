@@ -7,7 +7,7 @@ use Rattle.search.proofs.Reaching.{plant_none, plant_one}
 use Rattle.search.proofs.reach.plant.Goals as goal
 
 pub loop-left-init : goal.loop-left-init
-loop-left-init c = plant_none c.args.sources c.requires
+loop-left-init c = plant_none c.args.sources (omega arith)
 
 pub bounds-tree-x : goal.bounds-tree-x
 bounds-tree-x c = omega (arith, c.lowest-x.ensures.1)

@@ -22,7 +22,7 @@ returns c =
     but_end (rw e at c.loop-left.invariant.1)
 
 pub loop-left-init : goal.loop-left-init
-loop-left-init c = (⊆-refl c.args.x, but_start c.args.x c.args.weight c.requires.0)
+loop-left-init c = (⊆-refl c.args.x, but_start c.args.x c.args.weight (omega arith))
 
 pub overflow_add-p : goal.overflow_add-p
 overflow_add-p c = omega (arith, c.lowest.ensures.1)
@@ -38,7 +38,7 @@ overflow_add-limits c =
     let v = c.loop-left.invariant in
     -- The taxon's number is still as it came.
     let was : nth c.loop-left.limits (256 + c.lowest.result) ≡ nth c.args.limits.now (256 + c.lowest.result) = but_was v.1 c.lowest.ensures.2.is c.lowest.ensures.1 (v.0.sub c.lowest.ensures.2).is in
-    omega (arith, was, c.requires.1 c.lowest.result c.lowest.ensures.1, c.wide.ensures.1)
+    omega (arith, was, c.requires c.lowest.result c.lowest.ensures.1, c.wide.ensures.1)
 
 pub offset_bounds-limits-p-in-loop-left : goal.offset_bounds-limits-p-in-loop-left
 offset_bounds-limits-p-in-loop-left c = omega (arith, c.lowest.ensures.1)

@@ -19,7 +19,7 @@ loop-c-init c =
 pub tie_column-requires : goal.tie_column-requires
 tie_column-requires c =
     let v = c.loop-c.invariant in
-    (v.1.long, v.2.long, few_more v.4 (omega (arith, v.0, c.requires.0)))
+    few_more v.4 (omega (arith, v.0, c.requires.0))
 
 pub loop-c-preserved : goal.loop-c-preserved
 loop-c-preserved c =
