@@ -4,7 +4,7 @@
 #![tactic(auto)]
 
 pub mod net;
-pub mod networks;
+mod networks;
 mod push;
 mod reach;
 mod ties;
@@ -48,7 +48,7 @@ fn network_of(
     for c in 0..m {
         let z = taxa::common(zeros[c], group);
         joined[c] = unless_none(z, taxa::common(ones[c], group));
-        limits[c] = net::wide(weights[c]) * taxa::mass_in(planes, z);
+        limits[c] = u32::from(weights[c]) * taxa::mass_in(planes, z);
     }
 }
 
@@ -82,7 +82,13 @@ pub struct Split {
 
 impl Network<'_> {
     // The taxa that hops reach from the sources past no flow.
-    fn connected(&self, ws: &mut [i32], used: &mut [u32; 256], tree: &mut [u32; 256], sources: u64) -> u64
+    fn connected(
+        &self,
+        ws: &mut [i32],
+        used: &mut [u32; 256],
+        tree: &mut [u32; 256],
+        sources: u64,
+    ) -> u64
         requires { on.Room self.now ws.old × (sources < 2 ^ self.now.n) }
         ensures { on.Side self.now ws.new sources result × (ws.new ≡ cleared (on.places self.now) ws.old) }
     {
@@ -94,7 +100,15 @@ impl Network<'_> {
 
     // Taxon u is tried. Only sets with all taxa of the group below u, and without u, can cost less than the best: what ties u to those taxa, and a flow
     // from all of them to u, is what such a set costs at least.
-    fn attempt(&self, group: u64, ws: &mut [i32], used: &mut [u32; 256], tree: &mut [u32; 256], best: Best, u: usize) -> Best
+    fn attempt(
+        &self,
+        group: u64,
+        ws: &mut [i32],
+        used: &mut [u32; 256],
+        tree: &mut [u32; 256],
+        best: Best,
+        u: usize,
+    ) -> Best
         requires { on.Room self.now ws.old
             × (group < 2 ^ self.now.n)
             × (low self.now.n group < u)
@@ -123,7 +137,13 @@ impl Network<'_> {
     }
 
     // The least that parts a taxon of the group from its lowest, and the first such taxon.
-    fn cheapest(&self, group: u64, ws: &mut [i32], used: &mut [u32; 256], tree: &mut [u32; 256]) -> Best
+    fn cheapest(
+        &self,
+        group: u64,
+        ws: &mut [i32],
+        used: &mut [u32; 256],
+        tree: &mut [u32; 256],
+    ) -> Best
         requires { on.Room self.now ws.old
             × (group < 2 ^ self.now.n)
             × (1 < count self.now.n group)
@@ -144,7 +164,13 @@ impl Network<'_> {
     }
 
     // The division by the taxon that is parted for the least; the flow to it, run last, stands in the workspace.
-    fn by_flows(&self, group: u64, ws: &mut [i32], used: &mut [u32; 256], tree: &mut [u32; 256]) -> Split
+    fn by_flows(
+        &self,
+        group: u64,
+        ws: &mut [i32],
+        used: &mut [u32; 256],
+        tree: &mut [u32; 256],
+    ) -> Split
         requires { on.Room self.now ws.old
             × (group < 2 ^ self.now.n)
             × (1 < count self.now.n group)
@@ -205,7 +231,16 @@ pub fn divide(
         × (nth lists.new.offsets m ≡ arc_count m (cols_of weights.now ones.now zeros.now) group)
         × Kept (arc_count m (cols_of weights.now ones.now zeros.now) group) ws.old ws.new }
 {
-    network_of(weights, planes, ones, zeros, group, m, &mut lists.joined, &mut lists.limits);
+    network_of(
+        weights,
+        planes,
+        ones,
+        zeros,
+        group,
+        m,
+        &mut lists.joined,
+        &mut lists.limits,
+    );
     offsets_of(&lists.joined, m, &mut lists.offsets);
     let s = taxa::single(taxa::lowest(group));
     let free = Network {
@@ -226,7 +261,14 @@ pub fn divide(
             other: taxa::lowest(off) as usize,
         };
     }
-    ties::ties_of(weights, &lists.joined, group, m, &mut lists.limits, &mut lists.used);
+    ties::ties_of(
+        weights,
+        &lists.joined,
+        group,
+        m,
+        &mut lists.limits,
+        &mut lists.used,
+    );
     let tied = Network {
         weights,
         planes,

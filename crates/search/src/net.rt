@@ -75,19 +75,12 @@ pub fn clear(ws: &mut [i32], len: usize)
     }
 }
 
-pub fn wide(x: u16) -> u32
-    ensures { (result ≡ x) × (result < 65536) }
-{
-    x as u32
-}
-
 // The places of the first m columns become 0, and the rest stay.
 pub fn clear_places(ws: &mut [i32], offsets: &[u16; 257], m: usize)
     requires { (m ≤ 256) × (nth offsets.now m ≤ length ws.old) }
     ensures { ws.new ≡ cleared (nth offsets.now m) ws.old }
 {
-    let places = wide(offsets[m]) as usize;
-    clear(ws, places);
+    clear(ws, usize::from(offsets[m]));
 }
 
 // What a column joins, and where its places start.
@@ -104,7 +97,7 @@ impl Network<'_> {
     {
         Column {
             joined: self.joined[c],
-            offset: wide(self.offsets[c]) as usize,
+            offset: usize::from(self.offsets[c]),
         }
     }
 

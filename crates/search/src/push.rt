@@ -18,12 +18,6 @@ pub struct Cut {
     pub side: u64,
 }
 
-fn index(x: u32) -> usize
-    ensures { result ≡ x }
-{
-    x as usize
-}
-
 // Whether the flow still grows: t was reached, and the bound is not.
 fn grows(side: u64, t: usize, size: u32, bound: u32) -> bool
     requires { t < 64 }
@@ -67,26 +61,31 @@ impl Network<'_> {
     }
 
     // If hops reach t, what the path to it carries is pushed along it.
-    fn advance(&self, ws: &mut [i32], used: &mut [u32; 256], tree: &mut [u32; 256], sources: u64, t: usize, size: u32) -> Cut
+    fn advance(
+        &self,
+        ws: &mut [i32],
+        used: &mut [u32; 256],
+        tree: &mut [u32; 256],
+        sources: u64,
+        t: usize,
+        size: u32,
+    ) -> Cut
         requires { on.Flowing self.now ws.old used.old sources t size }
         ensures { on.Advanced self.now ws.new used.new sources t size result.size result.side × on.Kept self.now ws.old ws.new }
     {
         let goal = taxa::single(t as u32);
         // A column to start at: the one through which the last path came to t, if there was one.
-        let first = index(tree[4 * t + 1]);
+        let first = tree[4 * t + 1] as usize;
         let met = self.reach(ws, used, tree, sources, goal, first);
         if !taxa::contains(met, t as u32) {
-            return Cut {
-                size: size,
-                side: met,
-            };
+            return Cut { size, side: met };
         }
         let d = tree[4 * t + 3];
         let mut j = t;
         // Only the sources have turn 0.
         while 0 < tree[4 * j + 2] {
-            let i = index(tree[4 * j]);
-            let c = index(tree[4 * j + 1]);
+            let i = tree[4 * j] as usize;
+            let c = tree[4 * j + 1] as usize;
             self.step(ws, used, c, i, j, d);
             j = i;
         }
@@ -97,7 +96,15 @@ impl Network<'_> {
     }
 
     // One hop straight from a source to t through column c, if that joins both, carries what it can: the size of the flow with that.
-    fn direct_hop(&self, ws: &mut [i32], used: &mut [u32; 256], sources: u64, t: usize, c: usize, size: u32) -> u32
+    fn direct_hop(
+        &self,
+        ws: &mut [i32],
+        used: &mut [u32; 256],
+        sources: u64,
+        t: usize,
+        c: usize,
+        size: u32,
+    ) -> u32
         requires { on.Flowing self.now ws.old used.old sources t size × (c < self.now.m) }
         ensures { on.Flowing self.now ws.new used.new sources t result × on.Kept self.now ws.old ws.new }
     {
@@ -130,7 +137,15 @@ impl Network<'_> {
     }
 
     // A largest flow from the sources to t, from whatever stands in the workspace; it stops once it is no smaller than the bound.
-    pub fn largest(&self, ws: &mut [i32], used: &mut [u32; 256], tree: &mut [u32; 256], sources: u64, t: usize, bound: u32) -> Cut
+    pub fn largest(
+        &self,
+        ws: &mut [i32],
+        used: &mut [u32; 256],
+        tree: &mut [u32; 256],
+        sources: u64,
+        t: usize,
+        bound: u32,
+    ) -> Cut
         requires { on.Room self.now ws.old
             × (sources < 2 ^ self.now.n)
             × (t < self.now.n)
@@ -142,7 +157,7 @@ impl Network<'_> {
         let size = self.direct_hops(ws, used, sources, t);
         // t counts as reached: nothing is known of the side yet.
         let mut cut = Cut {
-            size: size,
+            size,
             side: taxa::single(t as u32),
         };
         while grows(cut.side, t, cut.size, bound) {

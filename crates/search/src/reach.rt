@@ -17,12 +17,6 @@ pub const NOBODY: usize = 64;
 // More than any hop or flow carries.
 pub const UNBOUNDED: u32 = 4294967295;
 
-fn greatest(x: u32, y: u32) -> u32
-    ensures { result ≡ max x y }
-{
-    if x < y { y } else { x }
-}
-
 // What more can run one way: up to cap, with `back` to turn back and `used` in use.
 fn spare(cap: u32, back: u32, used: u32) -> u32
     requires { (used ≤ cap) × (cap < 2 ^ 23) × (back ≤ cap) }
@@ -93,13 +87,13 @@ impl Network<'_> {
             × (i < 64) }
         ensures { on.IsGate self.now used.now c i flow.out flow.inn result.weight result.sends result.free }
     {
-        let weight = net::wide(self.weights[c]);
+        let weight = u32::from(self.weights[c]);
         let most = self.arc(weight, i);
         let sends = spare(most, flow.inn, flow.out);
         Gate {
-            weight: weight,
-            sends: sends,
-            free: greatest(flow.inn, self.limits[c] - used[c]),
+            weight,
+            sends,
+            free: flow.inn.max(self.limits[c] - used[c]),
         }
     }
 
@@ -113,7 +107,7 @@ impl Network<'_> {
     {
         let most = self.arc(g.weight, j);
         let takes = spare(most, flow.out, flow.inn);
-        taxa::least(taxa::least(g.sends, takes), greatest(g.free, flow.out))
+        g.sends.min(takes).min(g.free.max(flow.out))
     }
 
     // Of the taxa of x, which column c joins, one whose hop leads wherever a hop of any of them leads; `NOBODY` if none leads anywhere. A taxon that sends is such
@@ -163,7 +157,7 @@ impl Network<'_> {
         // No hop carries more than the way to i.
         let g = Gate {
             weight: gate.weight,
-            sends: taxa::least(gate.sends, tree[4 * i + 3]),
+            sends: gate.sends.min(tree[4 * i + 3]),
             free: gate.free,
         };
         let stamp = tree[4 * i + 2] + 1;
@@ -179,7 +173,15 @@ impl Network<'_> {
     }
 
     // The taxa that a hop from a taxon met through column c reaches join.
-    fn pass(&self, ws: &[i32], used: &[u32; 256], tree: &mut [u32; 256], sources: u64, met: u64, c: usize) -> u64
+    fn pass(
+        &self,
+        ws: &[i32],
+        used: &[u32; 256],
+        tree: &mut [u32; 256],
+        sources: u64,
+        met: u64,
+        c: usize,
+    ) -> u64
         requires { on.Ready self.now ws.now used.now × on.Rooted self.now ws.now sources met tree.old × (c < self.now.m) }
         ensures { on.Crossed self.now ws.now sources met result tree.new c }
     {

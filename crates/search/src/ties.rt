@@ -8,7 +8,7 @@ ghost use Rattle.search.specs.inner.Trying.{Ties, Weighed, sum_most, Few, SameLi
 ghost use Rattle.search.specs.inner.On as on;
 
 use crate::networks::Network;
-use crate::{net, push, reach};
+use crate::{push, reach};
 
 // Where the ties start, and where they end.
 pub const TIES: usize = 256;
@@ -33,7 +33,7 @@ fn tie(limits: &mut [u32; 320], x: u64, weight: u16)
     let mut left = x;
     while 0 < left {
         let p = TIES + taxa::lowest(left) as usize;
-        limits[p] = limits[p] + net::wide(weight);
+        limits[p] = limits[p] + u32::from(weight);
         left = taxa::rest(left);
     }
 }
@@ -48,7 +48,7 @@ fn tie_column(limits: &mut [u32; 320], own: &mut [u32; 256], x: u64, weight: u16
     }
     tie(limits, taxa::rest(x), weight);
     let first = taxa::lowest(x) as usize;
-    own[first] = own[first] + net::wide(weight);
+    own[first] = own[first] + u32::from(weight);
 }
 
 // What ties each taxon of the group to the lower ones goes behind the limits; and what its own columns weigh, those that it is the lowest of.
@@ -85,7 +85,7 @@ impl Network<'_> {
             let i = taxa::lowest(left);
             let u = i as usize;
             let weight = self.limits[TIES + u] + own[u];
-            bound = taxa::least(bound, weight * taxa::multiplicity(self.planes, i) + 1);
+            bound = bound.min(weight * taxa::multiplicity(self.planes, i) + 1);
             left = taxa::rest(left);
         }
         bound

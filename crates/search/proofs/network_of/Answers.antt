@@ -31,7 +31,7 @@ loop-c-init c =
 -- A weight below 2^16 for each of at most 64 x 127 specimens.
 pub overflow_mul-limits : goal.overflow_mul-limits
 overflow_mul-limits c =
-    let w : c.wide.result ≤ 65535 = omega arith in
+    let w : c.from.result ≤ 65535 = omega arith in
     omega (arith, c.mass_in.ensures.1, mul-le-mul_right c.mass_in.result w)
 
 pub loop-c-preserved : goal.loop-c-preserved
@@ -43,7 +43,7 @@ loop-c-preserved c =
     let fits : z.result < 2 ^ 64 = omega (arith, z.ensures, ∩-≤ (nth a.zeros.now c.loop-c.c) a.group, c.ranges.group.fits) in (
       omega arith,
       table_next v.1 b (c.unless_none.ensures ∙ ap₂ (λ (t : Bool) (x : ℕ). cond t x 0) (some_count fits ∙ ap (λ (x : ℕ). ltb 0 (count 64 x)) z.ensures) c.common.ensures),
-      table_next v.2 (omega (arith, b)) (ap₂ (λ (x y : ℕ). x * y) c.wide.ensures.0 (c.mass_in.ensures.0 ∙ ap (mass 64 (multiplicity_in a.planes.now)) z.ensures)),
+      table_next v.2 (omega (arith, b)) (ap₂ (λ (x y : ℕ). x * y) c.from.ensures (c.mass_in.ensures.0 ∙ ap (mass 64 (multiplicity_in a.planes.now)) z.ensures)),
     )
 
 pub returns : goal.returns

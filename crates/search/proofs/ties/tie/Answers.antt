@@ -13,7 +13,7 @@ loop-left-preserved c =
     let v = c.loop-left in
     let q : c.rest-left.result ≡ v.left ∖ 2 ^ c.lowest.result = c.rest-left.ensures.0 ∙ ap (λ (y : ℕ). v.left ∖ 2 ^ y) (sym c.lowest.ensures.0) in (
       record { sub = λ h. v.invariant.0.sub ((in_remove v.left c.lowest.result).0 (rw q at h)).0 },
-      but_one v.invariant.1 c.lowest.ensures.2.is c.lowest.ensures.1 q (omega (arith, c.wide.ensures.0)),
+      but_one v.invariant.1 c.lowest.ensures.2.is c.lowest.ensures.1 q (omega (arith, c.from.ensures)),
     )
 
 pub returns : goal.returns
@@ -38,7 +38,7 @@ overflow_add-limits c =
     let v = c.loop-left.invariant in
     -- The taxon's number is still as it came.
     let was : nth c.loop-left.limits (256 + c.lowest.result) ≡ nth c.args.limits.now (256 + c.lowest.result) = but_was v.1 c.lowest.ensures.2.is c.lowest.ensures.1 (v.0.sub c.lowest.ensures.2).is in
-    omega (arith, was, c.requires c.lowest.result c.lowest.ensures.1, c.wide.ensures.1)
+    omega (arith, was, c.requires c.lowest.result c.lowest.ensures.1, c.from.ensures)
 
 pub offset_bounds-limits-p-in-loop-left : goal.offset_bounds-limits-p-in-loop-left
 offset_bounds-limits-p-in-loop-left c = omega (arith, c.lowest.ensures.1)

@@ -22,12 +22,6 @@ overflow_cast-t c = omega (arith, t_low c.requires)
 pub single-goal-requires : goal.single-goal-requires
 single-goal-requires c = omega (arith, t_low c.requires)
 
-pub overflow_mul-t : goal.overflow_mul-t
-overflow_mul-t c = omega (arith, t_low c.requires)
-
-pub overflow_add-t : goal.overflow_add-t
-overflow_add-t c = omega (arith, t_low c.requires)
-
 pub offset_bounds-tree-t : goal.offset_bounds-tree-t
 offset_bounds-tree-t c = omega (arith, t_low c.requires)
 
@@ -76,20 +70,11 @@ offset_bounds-tree-j c = omega (arith, under_low c.loop-j.invariant)
 pub bounds-tree-j : goal.bounds-tree-j
 bounds-tree-j c = omega (arith, under_low c.loop-j.invariant)
 
-pub overflow_mul-j-in-loop-j : goal.overflow_mul-j-in-loop-j
-overflow_mul-j-in-loop-j c = omega (arith, under_low c.loop-j.invariant)
-
 pub offset_bounds-tree-j-in-loop-j : goal.offset_bounds-tree-j-in-loop-j
 offset_bounds-tree-j-in-loop-j c = omega (arith, under_low c.loop-j.invariant)
 
 pub bounds-tree-j-in-loop-j : goal.bounds-tree-j-in-loop-j
 bounds-tree-j-in-loop-j c = omega (arith, under_low c.loop-j.invariant)
-
-pub overflow_mul-j-in-loop-j-2 : goal.overflow_mul-j-in-loop-j-2
-overflow_mul-j-in-loop-j-2 c = omega (arith, under_low c.loop-j.invariant)
-
-pub overflow_add-j-in-loop-j : goal.overflow_add-j-in-loop-j
-overflow_add-j-in-loop-j c = omega (arith, under_low c.loop-j.invariant)
 
 pub offset_bounds-tree-j-in-loop-j-2 : goal.offset_bounds-tree-j-in-loop-j-2
 offset_bounds-tree-j-in-loop-j-2 c = omega (arith, under_low c.loop-j.invariant)
@@ -102,21 +87,20 @@ step-requires c =
     let u = c.loop-j.invariant in
     let root = not_root u c.loop-j-test.true in
     let h = can_hop u root in
-    rw (c.index-i.ensures, c.index-c.ensures) (h.0, under_via u root, h.2, h.3, h.4)
+    (h.0, under_via u root, h.2, h.3, h.4)
 
 pub loop-j-smaller : goal.loop-j-smaller
 loop-j-smaller c =
     let u = c.loop-j.invariant in
-    rw c.index-i.ensures (under_turn u (not_root u c.loop-j-test.true))
+    under_turn u (not_root u c.loop-j-test.true)
 
 pub loop-j-preserved : goal.loop-j-preserved
 loop-j-preserved c =
     let u = c.loop-j.invariant in
-    let index = c.index-i.ensures in
-    let h = rw (index, c.index-c.ensures) at c.step.ensures in
+    let h = c.step.ensures in
     let a = c.args in
     let root = not_root u c.loop-j-test.true in
-    rw index (under_step u root (h.0 a.self.now.m) (h.1 a.self.now.m (under_via u root)) h.2)
+    under_step u root (h.0 a.self.now.m) (h.1 a.self.now.m (under_via u root)) h.2
 
 pub overflow_add-result : goal.overflow_add-result
 overflow_add-result c =

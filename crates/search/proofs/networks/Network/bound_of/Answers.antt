@@ -23,7 +23,7 @@ pub loop-left-preserved : goal.loop-left-preserved
 loop-left-preserved c =
     let a = c.args in
     let left = c.loop-left.left in
-    rw c.least-bound.ensures
+    rw c.min-bound.ensures
     (binding_one c.loop-left.invariant c.lowest-i.result c.lowest-i.ensures.2.is
     (ap (λ (y : ℕ). (nth a.self.now.limits.now (256 + c.lowest-i.result) + nth a.own.now c.lowest-i.result) * y + 1) c.multiplicity.ensures.0)
     (c.rest-left-in-loop-left.ensures.0 ∙ ap (λ (y : ℕ). left ∖ 2 ^ y) (sym c.lowest-i.ensures.0)))

@@ -1,9 +1,6 @@
 -- `Network::cheapest` meets its contract. The invariant: the taxa below u have been tried.
 use Prim.Native.Nat.{◌<◌, ◌≤◌, ◌-◌}
-use Rattle.taxa.specs.Sets.{sizes, low}
-use Rattle.search.specs.Workspace.{Kept}
-use Rattle.search.specs.Search.{nth, Spare}
-use Rattle.search.specs.inner.Trying.{Trying}
+use Rattle.taxa.specs.Sets.{low}
 use Rattle.search.specs.inner.On as on
 use Rattle.search.proofs.networks.Network.cheapest.Given as goal
 

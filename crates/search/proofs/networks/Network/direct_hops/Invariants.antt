@@ -1,9 +1,5 @@
 -- `Network::direct_hops` meets its contract. The invariant: a flow of the size stands in the workspace.
 use Prim.Native.Nat.{◌-◌}
-use Rattle.taxa.specs.Sets.{sizes}
-use Rattle.search.specs.Search.{nth}
-use Rattle.search.specs.Workspace.{Kept}
-use Rattle.search.specs.inner.Flows.{Flowing}
 use Rattle.search.specs.inner.On as on
 use Rattle.search.proofs.networks.Network.direct_hops.Given as goal
 

@@ -15,14 +15,14 @@ pub spare-sends-requires : goal.spare-sends-requires
 spare-sends-requires c =
     let p = c.requires in
     let a = c.args in
-    let e = is_arc a.self.now.weights.now a.self.now.planes.now a.c a.i c.arc-most.ensures.0 c.wide-weight.ensures.0 in
+    let e = is_arc a.self.now.weights.now a.self.now.planes.now a.c a.i c.arc-most.ensures.0 c.from-weight.ensures in
     (omega (arith, e, p.3), c.arc-most.ensures.1, omega (arith, e, p.4))
 
 pub returns : goal.returns
 returns c =
     let a = c.args in
     record {
-      is_weight = c.wide-weight.ensures.0;
-      is_sends = omega (arith, c.spare-sends.ensures, is_arc a.self.now.weights.now a.self.now.planes.now a.c a.i c.arc-most.ensures.0 c.wide-weight.ensures.0);
-      is_free = c.greatest.ensures;
+      is_weight = c.from-weight.ensures;
+      is_sends = omega (arith, c.spare-sends.ensures, is_arc a.self.now.weights.now a.self.now.planes.now a.c a.i c.arc-most.ensures.0 c.from-weight.ensures);
+      is_free = c.max.ensures;
     }

@@ -1,10 +1,5 @@
 -- `Network::largest` meets its contract. The invariant: a flow stands in the workspace, and the taxa reached are all, if t is none of them.
-use mathlib.Core.Path.{◌≡◌}
-use lib.ListN.{length}
-use Rattle.taxa.specs.Sets.{has, sizes}
-use Rattle.search.specs.Workspace.{Kept}
-use Rattle.search.specs.Search.{nth}
-use Rattle.search.specs.inner.Flows.{Stage}
+use Rattle.taxa.specs.Sets.{has}
 use Rattle.search.proofs.Flows.{rest_of}
 use Rattle.search.specs.inner.On as on
 use Rattle.search.proofs.networks.Network.largest.Given as goal

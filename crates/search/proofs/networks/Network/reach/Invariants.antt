@@ -2,7 +2,6 @@
 -- The first sweep, from any column, only has to leave a tree: before the loop `met` is empty, and nothing hops from nobody.
 use Prim.Native.Nat.{◌-◌}
 use Rattle.taxa.specs.Sets.{all}
-use Rattle.search.specs.inner.Reaching.{Swept}
 use Rattle.search.specs.inner.On as on
 use Rattle.search.proofs.networks.Network.reach.Given as goal
 

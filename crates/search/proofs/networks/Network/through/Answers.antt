@@ -89,7 +89,7 @@ loop-left-preserved c =
     let free = max c.gate_at-gate.result.free flow.out in
     let offers : c.carry_to-k.result ≡ min (carried a.self.now.weights.now a.self.now.planes.now a.self.now.joined.now a.self.now.limits.now a.self.now.n a.ws.now a.c a.i j) (width_of v.tree a.i) =
     c.carry_to-k.ensures
-    ∙ ap (λ (s : ℕ). min (min s takes) free) c.least.ensures
+    ∙ ap (λ (s : ℕ). min (min s takes) free) c.min.ensures
     ∙ min_first c.gate_at-gate.result.sends (width_of a.tree.now a.i) takes free
     ∙ ap₂ (λ (x y : ℕ). min x y) (rw (flows_j.0, flows_j.1) (gate_carry p.0 p.2 is-gate p.3 j new.0)) (sym v.invariant.2) in
     let apart : a.i ≢ j = λ e. true≢false (sym (v.invariant.1.keeps a.i p.4) ∙ ap (has v.all) e ∙ new.1) in

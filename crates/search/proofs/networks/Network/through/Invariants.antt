@@ -4,7 +4,7 @@ use mathlib.Core.Bool.{true, false}
 use Prim.Native.Nat.{ℕ, ◌+◌}
 use Rattle.taxa.specs.Sets.{has}
 use Rattle.search.specs.Search.{nth}
-use Rattle.search.specs.inner.Reaching.{turn_of, width_of, Passed}
+use Rattle.search.specs.inner.Reaching.{turn_of, width_of}
 use Rattle.search.specs.inner.On as on
 use Rattle.search.proofs.networks.Network.through.Given as goal
 
