@@ -61,6 +61,7 @@ impl Network<'_> {
     }
 
     // If hops reach t, what the path to it carries is pushed along it.
+    #[tactic(auto, using(crate::proofs::Flows::sink_low, crate::proofs::Flows::under_low))]
     fn advance(
         &self,
         ws: &mut [i32],
@@ -96,6 +97,7 @@ impl Network<'_> {
     }
 
     // One hop straight from a source to t through column c, if that joins both, carries what it can: the size of the flow with that.
+    #[tactic(auto, using(crate::proofs::Flows::sink_low))]
     fn direct_hop(
         &self,
         ws: &mut [i32],

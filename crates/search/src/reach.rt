@@ -135,6 +135,7 @@ impl Network<'_> {
     }
 
     // The taxa that a hop from i through column c reaches join.
+    #[tactic(auto, using(crate::proofs::Reaching::joins_low))]
     fn through(
         &self,
         ws: &[i32],

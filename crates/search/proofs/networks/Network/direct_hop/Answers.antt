@@ -1,10 +1,8 @@
 -- `Network::direct_hop` meets its contract: the column does not join t, or no source, or the hop makes the flow larger by what it carries.
 use native.Mathlib.Omega.{arith}
 use mathlib.Core.Bool.{true}
-use mathlib.Core.List.{List}
-use lib.IntN.{ℤ}
 use mathlib.Core.Path.{◌≡◌, sym, ◌∙◌}
-use Prim.Native.Nat.{ℕ, ◌+◌, ◌<◌}
+use Prim.Native.Nat.{ℕ, ◌+◌}
 use Rattle.taxa.specs.Sets.{has, sizes, ◌∈◌, ◌∩◌}
 use Rattle.taxa.proofs.Members.{in∩}
 use Rattle.search.specs.Search.{nth}
@@ -12,12 +10,8 @@ use Rattle.search.specs.inner.Reaching.{carried}
 use Rattle.search.specs.inner.Flows.{Flowing}
 use Rattle.search.proofs.Workspace.{kept_none}
 use Rattle.search.proofs.Reaching.{pair, gate_of, pair_asks, entry, used_fits, gate_carry}
-use Rattle.search.proofs.Flows.{direct_asks, direct_flow, size_small}
+use Rattle.search.proofs.Flows.{sink_low, direct_asks, direct_flow, size_small}
 use Rattle.search.proofs.networks.Network.direct_hop.Goals as goal
-
--- t is one of 64 taxa.
-t_low : {W P J L F : List ℕ} {n m : ℕ} {ws : List ℤ} {U : List ℕ} {X t k : ℕ} → Flowing W P J L F n m ws U X t k → t < 64
-t_low f = omega (arith, f.sink, f.ready.net.taxa)
 
 -- What the column joins of the sources is both.
 both_in : (x y : ℕ) {z i : ℕ} → z ≡ x ∩ y → i ∈ z → (has x i ≡ true) × (has y i ≡ true)
@@ -49,7 +43,7 @@ carry_to-d-requires c =
     let joins_t = sym c.contains.ensures ∙ c.if-not-contains.false in
     let to_flow = c.flow.ensures (nth a.self.now.joined.now) a.c c.column_at-column.ensures.0 joins_t in
     let e = entry f b a.t joins_t in
-    rw c.gate_at-g.ensures.is_weight (f.net.light a.c b, omega (arith, to_flow.0, e.0), omega (arith, to_flow.1, e.1), t_low p.0)
+    rw c.gate_at-g.ensures.is_weight (f.net.light a.c b, omega (arith, to_flow.0, e.0), omega (arith, to_flow.1, e.1), sink_low p.0)
 
 pub step-requires : goal.step-requires
 step-requires c =
@@ -72,12 +66,6 @@ returns-then-not-contains c = (c.requires.0, kept_none (sizes c.args.self.now.m 
 
 pub returns-then-here-eq0 : goal.returns-then-here-eq0
 returns-then-here-eq0 c = (c.requires.0, kept_none (sizes c.args.self.now.m (nth c.args.self.now.joined.now)) c.args.ws.now)
-
-pub overflow_cast-t : goal.overflow_cast-t
-overflow_cast-t c = omega (arith, t_low c.requires.0)
-
-pub contains-requires : goal.contains-requires
-contains-requires c = omega (arith, t_low c.requires.0)
 
 pub lowest-i-requires : goal.lowest-i-requires
 lowest-i-requires c = omega (arith, c.if-here-eq0.false)

@@ -1,22 +1,15 @@
 -- `Network::through` meets its contract. The invariant: the taxa left are those that the column joins and that are not met, and the way to i is as it was.
 use native.Mathlib.Omega.{arith}
 use mathlib.Core.Path.{◌≡◌, refl, sym, ap, ap₂, ◌∙◌}
-use mathlib.Core.Bool.{true, true≢false}
+use mathlib.Core.Bool.{true≢false}
 use mathlib.Core.Logic.{◌≢◌}
-use mathlib.Core.List.{List}
-use lib.IntN.{ℤ}
-use Prim.Native.Nat.{ℕ, ◌+◌, ◌-◌, ◌*◌, ◌^◌, ◌<◌, min, max}
+use Prim.Native.Nat.{ℕ, ◌+◌, ◌-◌, ◌*◌, ◌^◌, min, max}
 use Rattle.taxa.specs.Sets.{has, ◌∖◌, multiplicity_in}
 use Rattle.taxa.proofs.Counts.{count_le}
 use Rattle.search.specs.Search.{nth}
-use Rattle.search.specs.inner.Network.{Ready}
 use Rattle.search.specs.inner.Reaching.{carried, width_of}
-use Rattle.search.proofs.Reaching.{min_first, pair, gate_of, pair_asks, entry, used_fits, gate_carry, pass_start, pass_one, others, other_width, still_in, off_in}
+use Rattle.search.proofs.Reaching.{joins_low, min_first, pair, gate_of, pair_asks, entry, used_fits, gate_carry, pass_start, pass_one, others, other_width, still_in, off_in}
 use Rattle.search.proofs.networks.Network.through.Goals as goal
-
--- A taxon that a column joins is one of 64.
-i_low : {W P J L F : List ℕ} {n m : ℕ} {ws : List ℤ} {U : List ℕ} {c i : ℕ} → Ready W P J L F n m ws U → c < m → has (nth J c) i ≡ true → i < 64
-i_low {c = c} {i = i} r b h = omega (arith, r.net.low c b i h, r.net.taxa)
 
 pub flow-requires : goal.flow-requires
 flow-requires c = let p = c.requires in pair_asks (pair p.0 p.2 c.args.i p.3) c.column_at-column.ensures
@@ -31,7 +24,7 @@ gate_at-gate-requires c =
       omega (arith, flows.0, e.0),
       omega (arith, flows.1, e.1),
       used_fits p.0 p.2,
-      i_low p.0 p.2 p.3,
+      joins_low p.0 p.2 p.3,
     )
 
 -- A turn is less than how many are met.
@@ -67,7 +60,7 @@ carry_to-k-requires c =
 pub offer-all-requires : goal.offer-all-requires
 offer-all-requires c =
     let p = c.requires in
-    (c.lowest-j.ensures.1, i_low p.0 p.2 p.3, omega (arith, p.2, p.0.net.columns))
+    (c.lowest-j.ensures.1, joins_low p.0 p.2 p.3, omega (arith, p.2, p.0.net.columns))
 
 pub loop-left-smaller : goal.loop-left-smaller
 loop-left-smaller c = c.rest-left.ensures.1
@@ -103,27 +96,3 @@ pub returns : goal.returns
 returns c =
     let e : c.loop-left.left ≡ 0 = omega arith in
     rw e at c.loop-left.invariant.1
-
-pub overflow_mul-i : goal.overflow_mul-i
-overflow_mul-i c = let p = c.requires in omega (arith, i_low p.0 p.2 p.3)
-
-pub overflow_add-i : goal.overflow_add-i
-overflow_add-i c = let p = c.requires in omega (arith, i_low p.0 p.2 p.3)
-
-pub offset_bounds-tree-i : goal.offset_bounds-tree-i
-offset_bounds-tree-i c = let p = c.requires in omega (arith, i_low p.0 p.2 p.3)
-
-pub bounds-tree-i : goal.bounds-tree-i
-bounds-tree-i c = let p = c.requires in omega (arith, i_low p.0 p.2 p.3)
-
-pub overflow_mul-stamp : goal.overflow_mul-stamp
-overflow_mul-stamp c = let p = c.requires in omega (arith, i_low p.0 p.2 p.3)
-
-pub overflow_add-stamp : goal.overflow_add-stamp
-overflow_add-stamp c = let p = c.requires in omega (arith, i_low p.0 p.2 p.3)
-
-pub offset_bounds-tree-i-2 : goal.offset_bounds-tree-i-2
-offset_bounds-tree-i-2 c = let p = c.requires in omega (arith, i_low p.0 p.2 p.3)
-
-pub bounds-tree-i-2 : goal.bounds-tree-i-2
-bounds-tree-i-2 c = let p = c.requires in omega (arith, i_low p.0 p.2 p.3)
