@@ -27,13 +27,6 @@ invariant_of-free c =
     let e = c.network_of.ensures in
     record { sound = net c.requires.0 e.0 e.1 c.offsets_of.ensures (λ k b. omega (arith, c.type_inv.weights k)) }
 
--- What ties the taxa went behind the limits, which are as they were.
-pub invariant_of-tied : goal.invariant_of-tied
-invariant_of-tied c =
-    let g = c.requires.0 in
-    let e = c.network_of.ensures in
-    record { sound = net g e.0 (limits_still g.columns c.ties_of.ensures.2 e.1) c.offsets_of.ensures (λ k b. omega (arith, c.type_inv.weights k)) }
-
 -- The group is in parts already, or
 pub returns-then-off-gt0 : goal.returns-then-off-gt0
 returns-then-off-gt0 c =
@@ -51,24 +44,6 @@ returns-then-off-gt0 c =
       divided_free g e.0 e.1 a.ws.now network room d.0 d.1 c.difference-off.ensures c.lowest-then-off-gt0.ensures.0 c.lowest-then-off-gt0.ensures.2,
       told,
       rw (sym arcs) emptied,
-    )
-
--- flows decide.
-pub by_flows-requires : goal.by_flows-requires
-by_flows-requires c =
-    let a = c.args in
-    let p = c.requires in
-    let g = p.0 in
-    let e = c.network_of.ensures in
-    -- The places are as many as the group's network has arcs.
-    let arcs = arcs_are g e.0 e.1 in
-    let room : sizes a.m (nth c.network_of.new.joined) ≤ length a.ws.now = omega (arith, arcs, p.1) in
-    let emptied = cleared_kept a.ws.now c.connected-met.ensures.1 room in (
-      omega (arith, room, emptied.long),
-      g.group,
-      g.two,
-      c.ties_of.ensures.0,
-      c.ties_of.ensures.1,
     )
 
 pub returns : goal.returns
@@ -92,8 +67,3 @@ returns c =
 
 pub lowest-requires : goal.lowest-requires
 lowest-requires c = count_pos c.args.n (omega (arith, c.requires.0.two))
-
-pub ties_of-requires : goal.ties_of-requires
-ties_of-requires c =
-    let g = c.requires.0 in
-    (g.columns, g.weights)

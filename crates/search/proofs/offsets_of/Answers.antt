@@ -28,13 +28,6 @@ loop-c-preserved c =
     let l = c.loop-c in
     (omega arith, next c, table_next l.invariant.2 (omega (arith, c.requires)) l.invariant.1)
 
-pub returns : goal.returns
-returns c =
-    let v = c.loop-c in
-    let e : v.c ≡ c.args.m = omega arith in
-    let t = rw e at (table_next v.invariant.2 (omega (arith, c.requires)) v.invariant.1) in
-    record { long = t.long; is = λ k b. t.is k (omega arith) }
-
 pub overflow_cast-sum : goal.overflow_cast-sum
 overflow_cast-sum c = omega (arith, few c)
 

@@ -1,12 +1,8 @@
 -- `reach::offer` meets its contract: four stores at j, or none.
 use native.Mathlib.Omega.{arith}
-use mathlib.Core.Path.{refl}
-use Rattle.search.specs.inner.Reaching.{stays, joins}
+use Rattle.search.specs.inner.Reaching.{joins}
 use Rattle.search.proofs.Reaching.{joined, long}
 use Rattle.search.proofs.reach.offer.Goals as goal
-
-pub returns-then-k-eq0 : goal.returns-then-k-eq0
-returns-then-k-eq0 c = stays c.if-k-eq0.true refl refl
 
 pub returns : goal.returns
 returns c =

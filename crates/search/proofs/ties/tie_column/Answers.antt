@@ -3,11 +3,6 @@ use native.Mathlib.Omega.{arith}
 use Rattle.search.proofs.Bonds.{column_none, column_added}
 use Rattle.search.proofs.ties.tie_column.Goals as goal
 
-pub overflow_add-own : goal.overflow_add-own
-overflow_add-own c =
-    let l = c.lowest-first in
-    omega (arith, c.requires.own_few l.result l.ensures.1, c.from.ensures)
-
 pub returns : goal.returns
 returns c =
     rw c.lowest-first.ensures.0
@@ -15,6 +10,3 @@ returns c =
 
 pub returns-then-x-eq0 : goal.returns-then-x-eq0
 returns-then-x-eq0 c = rw c.if-x-eq0.true (column_none (omega arith) (omega arith))
-
-pub tie-requires : goal.tie-requires
-tie-requires c = c.requires.ties_few

@@ -7,11 +7,8 @@ use Rattle.search.specs.Search.{nth}
 use Rattle.search.specs.inner.Flows.{Advanced}
 use Rattle.search.specs.inner.Reaching.{width_of}
 use Rattle.search.proofs.Workspace.{kept_none}
-use Rattle.search.proofs.Flows.{under_start, not_root, is_root, under_via, under_turn, can_hop, under_step, stayed, went, size_small}
+use Rattle.search.proofs.Flows.{under_start, not_root, is_root, under_via, can_hop, under_step, stayed, went, size_small}
 use Rattle.search.proofs.networks.Network.advance.Goals as goal
-
-pub reach-met-requires : goal.reach-met-requires
-reach-met-requires c = let p = c.requires in (p.ready, p.sources)
 
 pub returns-then-not-contains : goal.returns-then-not-contains
 returns-then-not-contains c = (
@@ -28,11 +25,6 @@ step-requires c =
     let root = not_root u c.loop-j-test.true in
     let h = can_hop u root in
     (h.0, under_via u root, h.2, h.3, h.4)
-
-pub loop-j-smaller : goal.loop-j-smaller
-loop-j-smaller c =
-    let u = c.loop-j.invariant in
-    under_turn u (not_root u c.loop-j-test.true)
 
 pub loop-j-preserved : goal.loop-j-preserved
 loop-j-preserved c =
@@ -52,9 +44,6 @@ overflow_add-result c =
     (a.size + width_of r.new.tree a.t) r.result =
     went c.loop-j.invariant (is_root c.loop-j.invariant (omega arith)) met (r.ensures.tree.link a.t met c.requires.apart).some in
     omega (arith, size_small pushed.stage.flowing)
-
-pub shape_of-ws : goal.shape_of-ws
-shape_of-ws c = c.loop-j.invariant.kept.long
 
 pub returns : goal.returns
 returns c =

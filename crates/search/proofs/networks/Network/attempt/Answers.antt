@@ -7,14 +7,8 @@ use Rattle.taxa.proofs.Members.{in_pos, low_in}
 use Rattle.search.specs.Search.{nth}
 use Rattle.search.specs.inner.Flows.{Largest}
 use Rattle.search.proofs.Workspace.{kept_none}
-use Rattle.search.proofs.Trying.{lower_fits, lower_off, lower_in, tried_skip, tried_tied, tried_better, tried_worse}
+use Rattle.search.proofs.Trying.{lower_fits, lower_off, lower_in, tried_tied, tried_better, tried_worse}
 use Rattle.search.proofs.networks.Network.attempt.Goals as goal
-
-pub returns-then-not-contains : goal.returns-then-not-contains
-returns-then-not-contains c =
-    let a = c.args in
-    let p = c.requires in
-    (λ bound r. tried_skip r (sym c.contains.ensures ∙ c.if-not-contains.true), kept_none (sizes a.self.now.m (nth a.self.now.joined.now)) a.ws.now)
 
 pub returns-then-best-self : goal.returns-then-best-self
 returns-then-best-self c =

@@ -31,25 +31,6 @@ loop-left-preserved c =
 pub rest-left-requires : goal.rest-left-requires
 rest-left-requires c = count_pos 64 (omega (arith, c.requires.0))
 
-pub overflow_add-weight : goal.overflow_add-weight
-overflow_add-weight c = omega (arith, c.lowest-i.ensures.1)
-
-pub offset_bounds-self-u : goal.offset_bounds-self-u
-offset_bounds-self-u c = omega (arith, c.lowest-i.ensures.1)
-
-pub bounds-self-u : goal.bounds-self-u
-bounds-self-u c = omega (arith, c.lowest-i.ensures.1)
-
-pub offset_bounds-own-u : goal.offset_bounds-own-u
-offset_bounds-own-u c = omega (arith, c.lowest-i.ensures.1)
-
-pub bounds-own-u : goal.bounds-own-u
-bounds-own-u c = omega (arith, c.lowest-i.ensures.1)
-
-pub overflow_add-weight-in-loop-left : goal.overflow_add-weight-in-loop-left
-overflow_add-weight-in-loop-left c =
-    omega (arith, c.requires.1 c.lowest-i.result (c.loop-left.invariant.inside c.lowest-i.result c.lowest-i.ensures.2.is).0)
-
 pub overflow_mul-weight : goal.overflow_mul-weight
 overflow_mul-weight c =
     let i = c.lowest-i.result in
@@ -59,15 +40,3 @@ pub overflow_add-weight-in-loop-left-2 : goal.overflow_add-weight-in-loop-left-2
 overflow_add-weight-in-loop-left-2 c =
     let i = c.lowest-i.result in
     omega (arith, product c.args.self.now.planes.now i c.multiplicity.ensures.0 (c.requires.1 i (c.loop-left.invariant.inside i c.lowest-i.ensures.2.is).0))
-
-pub rest-left-requires-in-loop-left : goal.rest-left-requires-in-loop-left
-rest-left-requires-in-loop-left c = omega (arith, c.loop-left-test.true)
-
-pub loop-left-smaller : goal.loop-left-smaller
-loop-left-smaller c = c.rest-left-in-loop-left.ensures.1
-
-pub returns : goal.returns
-returns c = c.loop-left.invariant.loose
-
-pub multiplicity-requires : goal.multiplicity-requires
-multiplicity-requires c = (c.lowest-i.ensures.1, c.args.self.now.sound.tabled)

@@ -2,7 +2,6 @@
 use native.Mathlib.Omega.{arith}
 use lib.Pow.{pow-lt}
 use Rattle.taxa.specs.Sets.{low}
-use Rattle.taxa.proofs.Counts.{count_pos}
 use Rattle.taxa.proofs.Members.{below}
 use Rattle.search.proofs.Workspace.{kept_then}
 use Rattle.search.proofs.Group.{source_is, divided}
@@ -23,6 +22,3 @@ returns c =
     let p = c.requires in
     let f = rw (source_is c.args.self.now.n c.args.self.now.sound.taxa p.1 p.2 c.lowest.ensures.0 c.single-s.ensures) at c.largest-cut.ensures in
     (record { each = λ O Z g j k. divided g j k r.0 (stands f.0 (omega (arith, f.0.small))) }, kept_then r.1 f.1)
-
-pub lowest-requires : goal.lowest-requires
-lowest-requires c = count_pos c.args.self.now.n (omega (arith, c.requires.2))

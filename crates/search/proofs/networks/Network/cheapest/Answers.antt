@@ -34,12 +34,6 @@ loop-u-init c =
       kept_none (sizes a.self.now.m (nth a.self.now.joined.now)) a.ws.now,
     )
 
-pub attempt-best-requires : goal.attempt-best-requires
-attempt-best-requires c =
-    let p = c.requires in
-    let v = c.loop-u.invariant in
-    (omega (arith, p.0, v.3.long), p.1, v.0, omega arith, p.3)
-
 pub loop-u-preserved : goal.loop-u-preserved
 loop-u-preserved c =
     let v = c.loop-u.invariant in
@@ -52,15 +46,3 @@ returns c =
     let p = c.requires in
     let e : v.u ≡ c.args.self.now.n = omega arith in
     (trying_end c.args.self.now.sound.taxa p.1 (rw e at v.invariant.2) p.4 c.bound_of-bound.ensures, v.invariant.3)
-
-pub lowest-s-requires : goal.lowest-s-requires
-lowest-s-requires c = some c.args.self.now.n c.requires.2
-
-pub overflow_step-u : goal.overflow_step-u
-overflow_step-u c = omega (arith, c.lowest-s.ensures.1)
-
-pub overflow_step-u-in-loop-u : goal.overflow_step-u-in-loop-u
-overflow_step-u-in-loop-u c = omega (arith, c.args.self.now.sound.taxa, c.loop-u-test.true)
-
-pub shape_of-ws : goal.shape_of-ws
-shape_of-ws c = c.loop-u.invariant.3.long

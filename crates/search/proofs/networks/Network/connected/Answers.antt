@@ -19,6 +19,3 @@ returns c =
       record { low = f.tree.low; all = f.all (record { none = λ x h. absurd (true≢false (sym h ∙ has_none x)) }) },
       rw (net.sound.offsets.is net.m (omega arith)) at c.clear_places.ensures,
     )
-
-pub clear_places-requires : goal.clear_places-requires
-clear_places-requires c = let net = c.args.self.now in (net.sound.columns, omega (arith, c.requires.0, net.sound.offsets.is net.m (omega arith)))

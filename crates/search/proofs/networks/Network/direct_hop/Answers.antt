@@ -3,12 +3,11 @@ use native.Mathlib.Omega.{arith}
 use mathlib.Core.Bool.{true}
 use mathlib.Core.Path.{◌≡◌, sym, ◌∙◌}
 use Prim.Native.Nat.{ℕ, ◌+◌}
-use Rattle.taxa.specs.Sets.{has, sizes, ◌∈◌, ◌∩◌}
+use Rattle.taxa.specs.Sets.{has, ◌∈◌, ◌∩◌}
 use Rattle.taxa.proofs.Members.{in∩}
 use Rattle.search.specs.Search.{nth}
 use Rattle.search.specs.inner.Reaching.{carried}
 use Rattle.search.specs.inner.Flows.{Flowing}
-use Rattle.search.proofs.Workspace.{kept_none}
 use Rattle.search.proofs.Reaching.{pair, gate_of, pair_asks, entry, used_fits, gate_carry}
 use Rattle.search.proofs.Flows.{sink_low, direct_asks, direct_flow, size_small}
 use Rattle.search.proofs.networks.Network.direct_hop.Goals as goal
@@ -61,15 +60,6 @@ step-requires c =
     let h = direct_asks p.0 p.1 joins_i.1 (omega (arith, carries)) (joins_i.0, joins_t) in
     (h.0, p.1, h.2, h.3, h.4)
 
-pub returns-then-not-contains : goal.returns-then-not-contains
-returns-then-not-contains c = (c.requires.0, kept_none (sizes c.args.self.now.m (nth c.args.self.now.joined.now)) c.args.ws.now)
-
-pub returns-then-here-eq0 : goal.returns-then-here-eq0
-returns-then-here-eq0 c = (c.requires.0, kept_none (sizes c.args.self.now.m (nth c.args.self.now.joined.now)) c.args.ws.now)
-
-pub lowest-i-requires : goal.lowest-i-requires
-lowest-i-requires c = omega (arith, c.if-here-eq0.false)
-
 pub flow-from-requires : goal.flow-from-requires
 flow-from-requires c =
     let a = c.args in
@@ -103,10 +93,6 @@ overflow_add-result c =
     let flows : Flowing a.self.now.weights.now a.self.now.planes.now a.self.now.joined.now a.self.now.limits.now a.self.now.offsets.now a.self.now.n a.self.now.m c.step.new.ws c.step.new.used a.sources a.t (a.size + c.carry_to-d.result) =
     direct_flow p.0 p.1 joins_i.1 (omega (arith, carries)) (h.0 a.self.now.m) (h.1 a.self.now.m p.1) h.2 in
     omega (arith, size_small flows)
-
--- No number past the places of the columns changed.
-pub shape_of-ws : goal.shape_of-ws
-shape_of-ws c = (c.step.ensures.1 c.args.self.now.m c.requires.1).long
 
 pub returns : goal.returns
 returns c =

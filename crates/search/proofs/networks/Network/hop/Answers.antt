@@ -29,9 +29,3 @@ returns c =
           sent_kept (sizes m row) a.ws.now (slot row a.c a.i) (slot row a.c a.j) a.d
           (slot_lt row m a.c a.i b p.from.taxon p.from.joins) (slot_lt row m a.c a.j b p.to.taxon p.to.joins),
     )
-
-pub slot-a-requires : goal.slot-a-requires
-slot-a-requires c = (c.requires.0.from.taxon, c.column_at-column.ensures.1)
-
-pub slot-b-requires : goal.slot-b-requires
-slot-b-requires c = (c.requires.0.to.taxon, c.column_at-column.ensures.1)

@@ -15,12 +15,6 @@ use Rattle.search.proofs.networks.Network.largest.Goals as goal
 reached : {x : ℕ} (t : ℕ) → x ≡ 2 ^ t → has x t ≡ true
 reached t e = ap (λ (x : ℕ). has x t) e ∙ (in_pow t).is
 
-pub unused-requires : goal.unused-requires
-unused-requires c = c.args.self.now.sound.columns
-
-pub clear_places-requires : goal.clear_places-requires
-clear_places-requires c = let net = c.args.self.now in (net.sound.columns, omega (arith, c.requires.0, net.sound.offsets.is net.m (omega arith)))
-
 pub direct_hops-size-requires : goal.direct_hops-size-requires
 direct_hops-size-requires c =
     let p = c.requires in
@@ -33,12 +27,6 @@ loop-ws-init c =
     let f = c.direct_hops-size in
     (record { flowing = f.ensures.0; side = λ q. absurd (true≢false (sym (reached a.t c.single.ensures) ∙ q)) }, kept_none (sizes a.self.now.m (nth a.self.now.joined.now)) f.new.ws)
 
-pub grows-requires : goal.grows-requires
-grows-requires c = omega (arith, c.requires.2, c.args.self.now.sound.taxa)
-
-pub advance-cut-requires : goal.advance-cut-requires
-advance-cut-requires c = c.loop-ws.invariant.0.flowing
-
 pub loop-ws-smaller : goal.loop-ws-smaller
 loop-ws-smaller c =
     let v = c.loop-ws.cut in
@@ -46,17 +34,6 @@ loop-ws-smaller c =
     let r = c.advance-cut.result in
     let h = c.advance-cut.ensures.0 in
     falls v.size r.size (has v.side t) (has r.side t) (c.grows.ensures.0 c.loop-ws-test.true) h.more h.pushed (size_small h.stage.flowing)
-
-pub loop-ws-preserved : goal.loop-ws-preserved
-loop-ws-preserved c = let r = c.advance-cut.ensures in (r.0.stage, kept_then c.loop-ws.invariant.1 r.1)
-
-pub shape_of-ws : goal.shape_of-ws
-shape_of-ws c =
-    let a = c.args in
-    let clear = rw (a.self.now.sound.offsets.is a.self.now.m (omega arith)) at c.clear_places.ensures in
-    let kept : Kept (sizes a.self.now.m (nth a.self.now.joined.now)) a.ws.now c.loop-ws.ws =
-    kept_then (cleared_kept a.ws.now clear c.requires.0) (kept_then c.direct_hops-size.ensures.1 c.loop-ws.invariant.1) in
-    kept.long
 
 pub returns : goal.returns
 returns c =

@@ -5,12 +5,9 @@ use Prim.Native.Nat.{ℕ, ◌^◌}
 use mathlib.Core.Bool.{true}
 use Rattle.taxa.specs.Sets.{has, ◌∖◌}
 use Rattle.search.specs.Search.{nth}
-use Rattle.search.proofs.Reaching.{pair, gate_of, pair_asks, sends_of, free_of, seek_start, seek_found, seek_skip, seek_take, seek_end, entry, used_fits, gate_up, gate_free}
+use Rattle.search.proofs.Reaching.{pair, gate_of, pair_asks, sends_of, free_of, seek_found, seek_skip, seek_take, seek_end, entry, used_fits, gate_up, gate_free}
 use Rattle.search.proofs.networks.Network.sender.Goals as goal
 use Rattle.search.proofs.networks.Network.sender.Goals.{then-g-gt0+else-g-gt0-2, else-g-gt0}
-
-pub loop-left-init : goal.loop-left-init
-loop-left-init c = seek_start
 
 pub flow-flow-requires : goal.flow-flow-requires
 flow-flow-requires c =
@@ -48,9 +45,6 @@ returns-then-g-gt0-2 c =
     (omega (arith, sends, c.if-g-gt0.true))
     (omega (arith, free, c.if-g-gt0-2.true))
     l.1
-
-pub loop-left-smaller : goal.loop-left-smaller
-loop-left-smaller c = c.rest-left.ensures.1
 
 pub loop-left-preserved : goal.loop-left-preserved
 loop-left-preserved c =

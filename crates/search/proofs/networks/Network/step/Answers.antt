@@ -65,12 +65,6 @@ overflow_add-after c =
     omega (arith, entries_few p.2 p.4, entries_few p.3 p.4, p.4.little, here.from_out, here.to_out, from_after, to_after) in
     omega (arith, few)
 
-pub offset_bounds-used-c : goal.offset_bounds-used-c
-offset_bounds-used-c c = omega (arith, c.requires.4.column)
-
-pub bounds-used-c : goal.bounds-used-c
-bounds-used-c c = omega (arith, c.requires.4.column)
-
 pub overflow_add-used : goal.overflow_add-used
 overflow_add-used c =
     let a = c.args in
@@ -95,15 +89,3 @@ overflow_sub-used c =
     ≡ nth a.used.now a.c + (c.flow-3.result.out + c.flow-4.result.out) =
     omega (arith, count_after a.self.now.n (c.hop.ensures.0 a.self.now.n 0 a.self.now.sound.taxa).here p.2 p.3 p.0.apart, p.4.is, from_before, to_before, from_after, to_after) in
     omega (arith, balance)
-
-pub offset_bounds-used-c-2 : goal.offset_bounds-used-c-2
-offset_bounds-used-c-2 c = omega (arith, c.requires.4.column)
-
-pub bounds-used-c-2 : goal.bounds-used-c-2
-bounds-used-c-2 c = omega (arith, c.requires.4.column)
-
-pub shape_of-ws : goal.shape_of-ws
-shape_of-ws c = (c.hop.ensures.1 (c.args.c + 1) (omega arith)).long
-
-pub hop-requires : goal.hop-requires
-hop-requires c = let p = c.requires in (p.0, p.1)

@@ -57,14 +57,6 @@ carry_to-k-requires c =
     rw c.gate_at-gate.ensures.is_weight
     (p.0.net.light a.c p.2, omega (arith, flows.0, e.0), omega (arith, flows.1, e.1), c.lowest-j.ensures.1)
 
-pub offer-all-requires : goal.offer-all-requires
-offer-all-requires c =
-    let p = c.requires in
-    (c.lowest-j.ensures.1, joins_low p.0 p.2 p.3, omega (arith, p.2, p.0.net.columns))
-
-pub loop-left-smaller : goal.loop-left-smaller
-loop-left-smaller c = c.rest-left.ensures.1
-
 pub loop-left-preserved : goal.loop-left-preserved
 loop-left-preserved c =
     let a = c.args in
@@ -91,8 +83,3 @@ loop-left-preserved c =
       pass_one v.invariant.1 p.2 (p.0.net.low a.c p.2 j new.0) c.lowest-j.ensures.1 new.1 offers o q,
       other_width o a.i apart ∙ v.invariant.2,
     )
-
-pub returns : goal.returns
-returns c =
-    let e : c.loop-left.left ≡ 0 = omega arith in
-    rw e at c.loop-left.invariant.1
