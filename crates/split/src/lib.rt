@@ -18,6 +18,7 @@ ghost use Rattle.split.specs.Operation.{split_of, answered, workspace_after, Spl
 
 use matrix::Checked;
 use record::Refusal;
+use search::Lists;
 
 // What the split answers: the division's cost, its side A and the taxon t, or the refusal.
 #[derive(Clone, Copy)]
@@ -48,25 +49,9 @@ fn split_loaded(
     columns::load(file, weights, ones, zeros);
     let planes = matrix::planes_in(file);
     search::net::clear(workspace, needed);
-    let mut joined = [0u64; 256];
-    let mut limits = [0u32; 320];
-    let mut offsets = [0u16; 257];
-    let mut used = [0u32; 256];
-    let mut tree = [0u32; 256];
+    let mut lists = Lists::new();
     let found = group::divide(
-        weights,
-        &planes,
-        ones,
-        zeros,
-        group,
-        n,
-        m,
-        workspace,
-        &mut joined,
-        &mut limits,
-        &mut offsets,
-        &mut used,
-        &mut tree,
+        weights, &planes, ones, zeros, group, n, m, workspace, &mut lists,
     );
     Divided::Taken(found.cost, found.side, found.other as u32)
 }

@@ -12,7 +12,7 @@ ghost use Rattle.tree.specs.inner.Grow.{entries_for, InFront, LentLists, Ready, 
 
 use super::{grow, order};
 use answer::Answer;
-use search::net;
+use search::{Lists, net};
 use split::columns;
 
 // The walk from all taxa. The lists of the search and of the parts stand only while the tree grows. Returns how many groups there are.
@@ -38,11 +38,7 @@ fn grow_all(
         × LentLists ones.new zeros.new walked.new paid.new }
 {
     let mut list = [0u64; 128];
-    let mut joined = [0u64; 256];
-    let mut limits = [0u32; 320];
-    let mut offsets = [0u16; 257];
-    let mut used = [0u32; 256];
-    let mut tree = [0u32; 256];
+    let mut lists = Lists::new();
     grow::grow(
         weights,
         planes,
@@ -54,11 +50,7 @@ fn grow_all(
         &mut list,
         walked,
         paid,
-        &mut joined,
-        &mut limits,
-        &mut offsets,
-        &mut used,
-        &mut tree,
+        &mut lists,
         0,
     )
 }

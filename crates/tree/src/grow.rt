@@ -3,7 +3,7 @@
 // arrays, which take less of each level's stack than slices do.
 ghost use Rattle.std.specs.Prelude.{◌≡◌, ◌+◌, ◌-◌, ◌*◌, ◌≤◌, ◌<◌, length, take};
 ghost use Rattle.taxa.specs.Sets.{count};
-ghost use Rattle.search.specs.Search.{Lent, Given};
+ghost use Rattle.search.specs.Search.{Given};
 ghost use Rattle.search.specs.Workspace.{cleared};
 ghost use Rattle.split.specs.inner.Handing.{Parallel, HandsOn};
 ghost use Rattle.tree.specs.Lists.{first_groups};
@@ -11,6 +11,7 @@ ghost use Rattle.tree.specs.inner.Lists.{Room};
 ghost use Rattle.tree.specs.inner.Grow.{entries_for, LentLists, Loaded, arcs_in, Ready, TurnsClear, Grown, AllSmall, walk_from, walk_over};
 
 use super::order::put_group;
+use search::Lists;
 use split::group::{Handed, split_group};
 
 // The split of a group, on columns in the first entries of longer lists.
@@ -23,17 +24,12 @@ fn split_first(
     n: usize,
     ws: &mut [i32],
     list: &mut [u64],
-    joined: &mut [u64; 256],
-    limits: &mut [u32; 320],
-    offsets: &mut [u16; 257],
-    used: &mut [u32; 256],
-    tree: &mut [u32; 256],
+    lists: &mut Lists,
 ) -> Handed
     requires { Given weights.now planes.now (entries_for weights.now ones.old) (entries_for weights.now zeros.old) group n (length weights.now)
         × Parallel weights.now (entries_for weights.now ones.old) (entries_for weights.now zeros.old)
         × (arcs_in weights.now (entries_for weights.now ones.old) (entries_for weights.now zeros.old) group ≤ length ws.old)
         × (count 64 group ≤ length list.old)
-        × Lent joined.old limits.old offsets.old used.old tree.old
         × (length weights.now ≤ length ones.old)
         × (length weights.now ≤ length zeros.old) }
     ensures { HandsOn weights.now planes.now (entries_for weights.now ones.old) (entries_for weights.now zeros.old)
@@ -41,8 +37,7 @@ fn split_first(
         list.old list.new result.cost result.number
         × (ws.new
         ≡ cleared (arcs_in weights.now (entries_for weights.now ones.old) (entries_for weights.now zeros.old) group)
-        ws.old)
-        × Lent joined.new limits.new offsets.new used.new tree.new }
+        ws.old) }
 {
     let m = weights.len();
     split_group(
@@ -54,11 +49,7 @@ fn split_first(
         n,
         ws,
         list,
-        joined,
-        limits,
-        offsets,
-        used,
-        tree,
+        lists,
     )
 }
 
@@ -75,33 +66,25 @@ pub fn grow(
     list: &mut [u64],
     walked: &mut [u64; 63],
     paid: &mut [u32; 63],
-    joined: &mut [u64; 256],
-    limits: &mut [u32; 320],
-    offsets: &mut [u16; 257],
-    used: &mut [u32; 256],
-    tree: &mut [u32; 256],
+    lists: &mut Lists,
     at: usize,
 ) -> usize
     requires ready { Ready weights.now planes.now (entries_for weights.now ones.old) (entries_for weights.now zeros.old) group n ws.old
         × (2 * count 64 group ≤ length list.old)
-        × LentLists ones.old zeros.old walked.old paid.old
-        × Lent joined.old limits.old offsets.old used.old tree.old }
+        × LentLists ones.old zeros.old walked.old paid.old }
     requires room { Room (at + length (walk_from weights.now planes.now (entries_for weights.now ones.old) (entries_for weights.now zeros.old) group).groups)
         walked.old paid.old }
     ensures { Grown weights.now (entries_for weights.now ones.new) (entries_for weights.now zeros.new)
         ws.old ws.new
         (walk_from weights.now planes.now (entries_for weights.now ones.old) (entries_for weights.now zeros.old) group)
         (first_groups walked.old paid.old at) (first_groups walked.new paid.new result) at result
-        × LentLists ones.new zeros.new walked.new paid.new
-        × Lent joined.new limits.new offsets.new used.new tree.new }
+        × LentLists ones.new zeros.new walked.new paid.new }
 {
     let size = taxa::size(group);
     if size < 2 {
         return at;
     }
-    let handed = split_first(
-        weights, planes, ones, zeros, group, n, ws, list, joined, limits, offsets, used, tree,
-    );
+    let handed = split_first(weights, planes, ones, zeros, group, n, ws, list, lists);
     let next = put_group(true, walked, paid, at, group, handed.cost);
     walk(
         weights,
@@ -115,11 +98,7 @@ pub fn grow(
         size,
         walked,
         paid,
-        joined,
-        limits,
-        offsets,
-        used,
-        tree,
+        lists,
         next,
     )
 }
@@ -138,18 +117,13 @@ fn walk(
     bound: u32,
     walked: &mut [u64; 63],
     paid: &mut [u32; 63],
-    joined: &mut [u64; 256],
-    limits: &mut [u32; 320],
-    offsets: &mut [u16; 257],
-    used: &mut [u32; 256],
-    tree: &mut [u32; 256],
+    lists: &mut Lists,
     at: usize,
 ) -> usize
     requires all_small { AllSmall (take k list.old) n bound (length list.old - k)
         × (k ≤ length list.old)
         × (0 < bound)
-        × LentLists ones.old zeros.old walked.old paid.old
-        × Lent joined.old limits.old offsets.old used.old tree.old }
+        × LentLists ones.old zeros.old walked.old paid.old }
     requires loaded { Loaded weights.now planes.now (entries_for weights.now ones.old) (entries_for weights.now zeros.old) n
         × TurnsClear weights.now planes.now (entries_for weights.now ones.old) (entries_for weights.now zeros.old) (take k list.old) ws.old }
     requires room { Room
@@ -160,8 +134,7 @@ fn walk(
         (walk_over weights.now planes.now (entries_for weights.now ones.old) (entries_for weights.now zeros.old)
         (take k list.old))
         (first_groups walked.old paid.old at) (first_groups walked.new paid.new result) at result
-        × LentLists ones.new zeros.new walked.new paid.new
-        × Lent joined.new limits.new offsets.new used.new tree.new }
+        × LentLists ones.new zeros.new walked.new paid.new }
 {
     let mut end = at;
     for i in 0usize..k {
@@ -177,11 +150,7 @@ fn walk(
             &mut list[k..],
             walked,
             paid,
-            joined,
-            limits,
-            offsets,
-            used,
-            tree,
+            lists,
             end,
         );
     }
