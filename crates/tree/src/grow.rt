@@ -6,11 +6,10 @@ ghost use Rattle.taxa.specs.Sets.{count};
 ghost use Rattle.search.specs.Search.{Given};
 ghost use Rattle.search.specs.Workspace.{cleared};
 ghost use Rattle.split.specs.inner.Handing.{Parallel, HandsOn};
-ghost use Rattle.tree.specs.Lists.{first_groups};
-ghost use Rattle.tree.specs.inner.Lists.{Room};
-ghost use Rattle.tree.specs.inner.Grow.{entries_for, LentLists, Loaded, arcs_in, Ready, TurnsClear, Grown, AllSmall, walk_from, walk_over};
+ghost use Rattle.tree.specs.Lists.{listed};
+ghost use Rattle.tree.specs.inner.Grow.{entries_for, Loaded, arcs_in, Ready, TurnsClear, Grown, AllSmall, walk_from, walk_over};
 
-use super::order::put_group;
+use super::order::Groups;
 use search::Lists;
 use split::group::{Handed, split_group};
 
@@ -53,7 +52,7 @@ fn split_first(
     )
 }
 
-// The group and all below it, after those that stand before `at`. Returns how many there are then.
+// The group and all below it, after those that are found.
 #[cycle(grow_walk)]
 pub fn grow(
     weights: &[u16],
@@ -64,28 +63,23 @@ pub fn grow(
     n: usize,
     group: u64,
     list: &mut [u64],
-    walked: &mut [u64; 63],
-    paid: &mut [u32; 63],
     lists: &mut Lists,
-    at: usize,
-) -> usize
+    groups: &mut Groups,
+)
     requires ready { Ready weights.now planes.now (entries_for weights.now ones.old) (entries_for weights.now zeros.old) group n ws.old
-        × (2 * count 64 group ≤ length list.old)
-        × LentLists ones.old zeros.old walked.old paid.old }
-    requires room { Room (at + length (walk_from weights.now planes.now (entries_for weights.now ones.old) (entries_for weights.now zeros.old) group).groups)
-        walked.old paid.old }
+        × (2 * count 64 group ≤ length list.old) }
+    requires room { groups.old.count + length (walk_from weights.now planes.now (entries_for weights.now ones.old) (entries_for weights.now zeros.old) group).groups ≤ 63 }
     ensures { Grown weights.now (entries_for weights.now ones.new) (entries_for weights.now zeros.new)
         ws.old ws.new
         (walk_from weights.now planes.now (entries_for weights.now ones.old) (entries_for weights.now zeros.old) group)
-        (first_groups walked.old paid.old at) (first_groups walked.new paid.new result) at result
-        × LentLists ones.new zeros.new walked.new paid.new }
+        (listed groups.old) (listed groups.new) groups.old.count groups.new.count }
 {
     let size = taxa::size(group);
     if size < 2 {
-        return at;
+        return;
     }
     let handed = split_first(weights, planes, ones, zeros, group, n, ws, list, lists);
-    let next = put_group(true, walked, paid, at, group, handed.cost);
+    groups.put(group, handed.cost);
     walk(
         weights,
         planes,
@@ -96,10 +90,8 @@ pub fn grow(
         list,
         handed.number,
         size,
-        walked,
-        paid,
         lists,
-        next,
+        groups,
     )
 }
 
@@ -115,31 +107,25 @@ fn walk(
     list: &mut [u64],
     k: usize,
     bound: u32,
-    walked: &mut [u64; 63],
-    paid: &mut [u32; 63],
     lists: &mut Lists,
-    at: usize,
-) -> usize
+    groups: &mut Groups,
+)
     requires all_small { AllSmall (take k list.old) n bound (length list.old - k)
         × (k ≤ length list.old)
-        × (0 < bound)
-        × LentLists ones.old zeros.old walked.old paid.old }
+        × (0 < bound) }
     requires loaded { Loaded weights.now planes.now (entries_for weights.now ones.old) (entries_for weights.now zeros.old) n
         × TurnsClear weights.now planes.now (entries_for weights.now ones.old) (entries_for weights.now zeros.old) (take k list.old) ws.old }
-    requires room { Room
-        (at + length (walk_over weights.now planes.now (entries_for weights.now ones.old) (entries_for weights.now zeros.old) (take k list.old)).groups)
-        walked.old paid.old }
+    requires room { groups.old.count
+        + length (walk_over weights.now planes.now (entries_for weights.now ones.old) (entries_for weights.now zeros.old) (take k list.old)).groups ≤ 63 }
     ensures { Grown weights.now (entries_for weights.now ones.new) (entries_for weights.now zeros.new)
         ws.old ws.new
         (walk_over weights.now planes.now (entries_for weights.now ones.old) (entries_for weights.now zeros.old)
         (take k list.old))
-        (first_groups walked.old paid.old at) (first_groups walked.new paid.new result) at result
-        × LentLists ones.new zeros.new walked.new paid.new }
+        (listed groups.old) (listed groups.new) groups.old.count groups.new.count }
 {
-    let mut end = at;
     for i in 0usize..k {
         let part = list[i];
-        end = grow(
+        grow(
             weights,
             planes,
             ones,
@@ -148,11 +134,8 @@ fn walk(
             n,
             part,
             &mut list[k..],
-            walked,
-            paid,
             lists,
-            end,
+            groups,
         );
     }
-    end
 }
