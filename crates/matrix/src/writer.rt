@@ -26,20 +26,22 @@ fn put_column(out: &mut [u8], column: Column)
     put64(&mut out[14..], column.zeros);
 }
 
-fn put_columns(out: &mut [u8], ones: &[u64; 256], zeros: &[u64; 256], m: usize)
-    requires { (m ≤ 256) × (length ones.now ≡ 256) × (length zeros.now ≡ 256) × (22 * m ≤ length out.old) }
-    ensures { out.new ≡ over (columns_bytes (weighing_one (take m ones.now) (take m zeros.now))) 0 out.old }
+// Columns of weight 1, with these sets.
+fn put_columns(out: &mut [u8], ones: &[u64], zeros: &[u64])
+    requires { (length zeros.now ≡ length ones.now) × (22 * length ones.now ≤ length out.old) }
+    ensures { out.new ≡ over (columns_bytes (weighing_one ones.now zeros.now)) 0 out.old }
 {
-    for i in 0usize..m {
-        let at = 22 * i;
+    let mut at = 0;
+    for (&one_set, &zero_set) in ones.iter().zip(zeros) {
         put_column(
             &mut out[at..],
             Column {
                 weight: 1,
-                ones: ones[i],
-                zeros: zeros[i],
+                ones: one_set,
+                zeros: zero_set,
             },
         );
+        at += 22;
     }
 }
 
@@ -59,7 +61,7 @@ pub fn put_matrix(out: &mut [u8], n: u16, ones: &[u64; 256], zeros: &[u64; 256],
         out.old }
 {
     put_head(out, n, m as u16);
-    put_columns(&mut out[8..], ones, zeros, m);
+    put_columns(&mut out[8..], &ones[..m], &zeros[..m]);
     let end = 8 + 22 * m;
     put_end(&mut out[end..]);
 }

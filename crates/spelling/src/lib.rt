@@ -31,12 +31,7 @@ fn spell_all(value: Answer, list: &[u8], room: &mut [u8]) -> usize
 
 // An answer and a list that were read: the number of names has to be the answer's. The text is made aside, so that its length is known before the first
 // byte of the output is written.
-fn write_read(
-    answer: &[u8],
-    list: &[u8],
-    count: usize,
-    out: &mut [u8],
-) -> Result<usize, Refusal>
+fn write_read(answer: &[u8], list: &[u8], count: usize, out: &mut [u8]) -> Result<usize, Refusal>
     requires { Readable answer.now list.now count }
     ensures { (result ≡ text.after_both answer.now list.now count (length out.old))
         × (out.new ≡ text.output_after answer.now list.now result out.old) }
