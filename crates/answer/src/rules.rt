@@ -1,5 +1,5 @@
 // The rules of an answer, for reading and for writing: why a record is refused, by the first rule that it breaks.
-ghost use Rattle.std.specs.Prelude.{◌≡◌, ◌<◌, ◌≤◌, ◌+◌};
+ghost use Rattle.std.specs.Prelude.{◌≡◌, ◌<◌, ◌≤◌, ◌+◌, length, sum};
 ghost use Rattle.answer.specs.Rules as rules;
 ghost use Rattle.answer.specs.Tests as tests;
 
@@ -141,23 +141,20 @@ pub fn entry_fault(
     None
 }
 
-// The sum of the first k costs: 63 of 4 bytes, so it fits 8.
-fn sum_of(costs: &[u32; 63], k: usize) -> u64
-    requires { k ≤ 63 }
-    ensures { result ≡ rules.sum_of costs.now k }
+// 63 costs of 4 bytes: their sum fits 8.
+fn sum_of(costs: &[u32]) -> u64
+    requires { length costs.now ≤ 63 }
+    ensures { result ≡ sum costs.now }
 {
-    let mut sum: u64 = 0;
-    for i in 0..k {
-        sum += u64::from(costs[i]);
-    }
-    sum
+    costs.iter().map(|&cost| u64::from(cost)).sum()
 }
 
+#[tactic(auto, using(crate::proofs::Rows::sum_first))]
 pub fn total_fault(total: u32, costs: &[u32; 63], groups: u16) -> Option<Reason>
     requires { groups ≤ 63 }
     ensures { result ≡ rules.total_fault total costs.now groups }
 {
-    if u64::from(total) == sum_of(costs, groups as usize) {
+    if u64::from(total) == sum_of(&costs[..groups as usize]) {
         None
     } else {
         Some(Reason::Total)
