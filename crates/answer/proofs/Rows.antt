@@ -7,13 +7,16 @@ use Prim.Native.Nat.{ℕ, zero, suc, ◌+◌, ◌-◌, ◌≤◌, ◌<◌}
 use native.Mathlib.Numerals.{add-one, sub-one}
 use native.Mathlib.Omega.{arith}
 use lib.Dec.{eqb, ltb}
-use lib.ListN.{get_or}
+use lib.ListN.{length, get_or, take}
 use borrow.Author.Count.{below_more}
 use borrow.Author.Tests.{lt-ltb, le-ltb, eq-eqb, ne_eqb}
 use Rattle.std.specs.Prelude.{Some, None}
+use Rattle.std.specs.List.{sum_by}
+use Rattle.std.proofs.lemmas.List.Sums.{sum_by_more}
+use Rattle.taxa.specs.Sum.{sum}
 use Rattle.taxa.specs.Sets.{◌∩◌, ◌∪◌, within, count, low, all}
 use Rattle.record.specs.declared.refusal.Reason.TheVariants as reason
-use Rattle.answer.specs.Rules.{counted, head_fault, follows, placed, compatible, compatible_all, group_fault, kept, floor_of, entry_fault}
+use Rattle.answer.specs.Rules.{counted, head_fault, follows, placed, compatible, compatible_all, group_fault, kept, floor_of, entry_fault, sum_of}
 
 module _ (n m groups flips listed : ℕ) where
   pub no_taxa : n ≡ 0 → Some reason.TaxonCount ≡ head_fault n m groups flips listed
@@ -104,6 +107,14 @@ one_crosses taxa x (suc k) i l e =
     (λ i l e. rw (one_crosses taxa x k i l e))
     (λ e. last_crosses taxa x (suc k) (omega arith) (rw sub-one e))
     i (omega arith) e
+
+-- The first costs, as a list.
+pub sum_first : (costs : List ℕ) (k : ℕ) → k ≤ length costs → sum_by (λ x. x) (take k costs) ≡ sum_of costs k
+unfolding sum
+sum_first costs zero l = refl
+sum_first costs (suc k) l =
+    let more = rw add-one at (sum_by_more (λ x. x) costs k 0 (omega arith)) in
+    more ∙ rw (sum_first costs k (omega arith))
 
 module _ (n : ℕ) (taxa : List ℕ) (i : ℕ) where
   pub group_unknown : within (get_or taxa i 0) (all n) ≡ false → Some reason.UnknownTaxon ≡ group_fault n taxa i

@@ -1,4 +1,5 @@
--- The rules of an answer as tests (document 01, the table of refusals): for each record the first refusal that it meets, "by number", or none. Groups and flips are judged against the records before them. proofs/Meaning.antt has that these are the rules of Lawful.antt.
+-- The rules of an answer as tests (document 01, the table of refusals): for each record the first refusal that it meets,
+-- "by number", or none. Groups and flips are judged against the records before them. proofs/Meaning.antt has that these are the rules of Lawful.antt.
 use Rattle.std.specs.Prelude.{Bool, true, ◌||◌, ◌&&◌, not, cond, List, ℕ, zero, suc, ◌+◌, ltb, eqb, get_or, Option, Some, None}
 use Rattle.taxa.specs.Sets.{◌∩◌, ◌∪◌, within, count, low, all}
 use Rattle.taxa.specs.Sum.{sum}

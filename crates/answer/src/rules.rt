@@ -1,5 +1,5 @@
 // The rules of an answer, for reading and for writing: why a record is refused, by the first rule that it breaks.
-ghost use Rattle.std.specs.Prelude.{◌≡◌, ◌<◌, ◌≤◌, ◌+◌};
+ghost use Rattle.std.specs.Prelude.{◌≡◌, ◌<◌, ◌≤◌, ◌+◌, length, sum};
 ghost use Rattle.answer.specs.Rules as rules;
 ghost use Rattle.answer.specs.Tests as tests;
 
@@ -8,6 +8,7 @@ use record::refusal::{Reason, Refusal};
 use taxa::{all, common, size, subset, union};
 
 // A record judged at its place.
+#[tactic(auto, unfolding(crate::specs::Tests::judge))]
 pub fn judge(fault: Option<Reason>, place: usize, next: Cursor) -> Result<Cursor, Refusal>
     ensures { result ≡ tests.judge fault place next }
 {
@@ -18,26 +19,22 @@ pub fn judge(fault: Option<Reason>, place: usize, next: Cursor) -> Result<Cursor
 }
 
 // Whether the head may count so many groups.
+#[tactic(auto, unfolding(crate::specs::Rules::counted))]
 fn counted(n: u16, groups: u16) -> bool
     ensures { result ≡ rules.counted n groups }
 {
     if n == 1 {
         return groups == 0;
     }
-    if groups == 0 {
-        return false;
-    }
-    groups < n
+    0 < groups && groups < n
 }
 
 // `listed` is how many entries the flip list has.
+#[tactic(auto, unfolding(crate::specs::Rules::head_fault))]
 pub fn head_fault(n: u16, m: u16, groups: u16, flips: u16, listed: usize) -> Option<Reason>
     ensures { result ≡ rules.head_fault n m groups flips listed }
 {
-    if n == 0 {
-        return Some(Reason::TaxonCount);
-    }
-    if 64 < n {
+    if n == 0 || 64 < n {
         return Some(Reason::TaxonCount);
     }
     if 256 < m {
@@ -46,28 +43,20 @@ pub fn head_fault(n: u16, m: u16, groups: u16, flips: u16, listed: usize) -> Opt
     if !counted(n, groups) {
         return Some(Reason::Groups);
     }
-    if m < flips {
-        return Some(Reason::Flips);
-    }
-    if listed < flips as usize {
+    if m < flips || listed < flips as usize {
         return Some(Reason::Flips);
     }
     None
 }
 
 // Whether group x may stand right after group y.
+#[tactic(auto, unfolding(crate::specs::Rules::follows))]
 fn follows(y: u64, x: u64) -> bool
     ensures { result ≡ rules.follows y x }
 {
     let before = taxa::low(y);
     let here = taxa::low(x);
-    if before < here {
-        return true;
-    }
-    if before != here {
-        return false;
-    }
-    size(x) < size(y)
+    before < here || (before == here && size(x) < size(y))
 }
 
 // Whether group i may stand where it does.
@@ -83,16 +72,11 @@ fn placed(n: u16, taxa: &[u64; 63], i: usize) -> bool
 }
 
 // Whether x and y are nested or disjoint.
+#[tactic(auto, unfolding(crate::specs::Rules::compatible))]
 fn compatible(x: u64, y: u64) -> bool
     ensures { result ≡ rules.compatible x y }
 {
-    if subset(x, y) {
-        return true;
-    }
-    if subset(y, x) {
-        return true;
-    }
-    common(x, y) == 0
+    subset(x, y) || subset(y, x) || common(x, y) == 0
 }
 
 // Whether x is so with each of the first k groups.
@@ -109,6 +93,7 @@ fn compatible_all(taxa: &[u64; 63], x: u64, k: usize) -> bool
 }
 
 // Group i, judged against those before it.
+#[tactic(auto, unfolding(crate::specs::Rules::group_fault))]
 pub fn group_fault(n: u16, taxa: &[u64; 63], i: usize) -> Option<Reason>
     requires { (n ≤ 64) × (i < 63) }
     ensures { result ≡ rules.group_fault n taxa.now i }
@@ -117,34 +102,24 @@ pub fn group_fault(n: u16, taxa: &[u64; 63], i: usize) -> Option<Reason>
     if !subset(it, all(u32::from(n))) {
         return Some(Reason::UnknownTaxon);
     }
-    if size(it) <= 1 {
-        return Some(Reason::Groups);
-    }
-    if !placed(n, taxa, i) {
-        return Some(Reason::Groups);
-    }
-    if !compatible_all(taxa, it, i) {
+    if size(it) <= 1 || !placed(n, taxa, i) || !compatible_all(taxa, it, i) {
         return Some(Reason::Groups);
     }
     None
 }
 
 // Whether a flipped column keeps its rules; `floor` is the least that the columns before it leave.
+#[tactic(auto, unfolding(crate::specs::Rules::kept))]
 fn kept(m: u16, floor: u64, column: u64, raised: u64, lowered: u64) -> bool
     ensures { result ≡ rules.kept m floor column raised lowered }
 {
-    if u64::from(m) <= column {
-        return false;
-    }
-    if column < floor {
-        return false;
-    }
-    if union(raised, lowered) == 0 {
-        return false;
-    }
-    common(raised, lowered) == 0
+    column < u64::from(m)
+        && floor <= column
+        && union(raised, lowered) != 0
+        && common(raised, lowered) == 0
 }
 
+#[tactic(auto, unfolding(crate::specs::Rules::entry_fault))]
 pub fn entry_fault(
     n: u16,
     m: u16,
@@ -157,10 +132,7 @@ pub fn entry_fault(
     ensures { result ≡ rules.entry_fault n m floor column raised lowered }
 {
     let known = all(u32::from(n));
-    if !subset(raised, known) {
-        return Some(Reason::UnknownTaxon);
-    }
-    if !subset(lowered, known) {
+    if !subset(raised, known) || !subset(lowered, known) {
         return Some(Reason::UnknownTaxon);
     }
     if !kept(m, floor, column, raised, lowered) {
@@ -169,23 +141,20 @@ pub fn entry_fault(
     None
 }
 
-// The sum of the first k costs: 63 of 4 bytes, so it fits 8.
-fn sum_of(costs: &[u32; 63], k: usize) -> u64
-    requires { k ≤ 63 }
-    ensures { result ≡ rules.sum_of costs.now k }
+// 63 costs of 4 bytes: their sum fits 8.
+fn sum_of(costs: &[u32]) -> u64
+    requires { length costs.now ≤ 63 }
+    ensures { result ≡ sum costs.now }
 {
-    let mut sum: u64 = 0;
-    for i in 0..k {
-        sum += u64::from(costs[i]);
-    }
-    sum
+    costs.iter().map(|&cost| u64::from(cost)).sum()
 }
 
+#[tactic(auto, using(crate::proofs::Rows::sum_first))]
 pub fn total_fault(total: u32, costs: &[u32; 63], groups: u16) -> Option<Reason>
     requires { groups ≤ 63 }
     ensures { result ≡ rules.total_fault total costs.now groups }
 {
-    if u64::from(total) == sum_of(costs, groups as usize) {
+    if u64::from(total) == sum_of(&costs[..groups as usize]) {
         None
     } else {
         Some(Reason::Total)

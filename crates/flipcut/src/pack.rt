@@ -32,7 +32,7 @@ fn refusal(why: Refusal) -> u64
     requires { RefusalFits why }
     ensures { result ≡ packed_refusal why }
 {
-    0x8000_0000_0000_0000 + (u64::from(why.reason.number()) + 256 * why.place as u64)
+    0x8000_0000_0000_0000 + (why.reason.number() as u64 + 256 * why.place as u64)
 }
 
 pub fn check(answer: Result<Shape, Refusal>) -> u64
@@ -40,7 +40,7 @@ pub fn check(answer: Result<Shape, Refusal>) -> u64
     ensures { result ≡ packed answer }
 {
     match answer {
-        Ok(shape) => u64::from(shape.n) + 65536 * u64::from(shape.m),
+        Ok(shape) => shape.n as u64 + 65536 * shape.m as u64,
         Err(why) => refusal(why),
     }
 }
@@ -50,7 +50,7 @@ pub fn build(answer: Result<Built, Refusal>) -> u64
     ensures { result ≡ packed_build answer }
 {
     match answer {
-        Ok(built) => u64::from(built.total) + 0x1_0000_0000 * built.size as u64,
+        Ok(built) => built.total as u64 + 0x1_0000_0000 * built.size as u64,
         Err(why) => refusal(why),
     }
 }
@@ -62,7 +62,7 @@ pub fn split(answer: Result<Split, Refusal>, res: &mut [u64; SPLIT_RESULTS]) -> 
 {
     match answer {
         Ok(found) => {
-            res[0] = u64::from(found.cost);
+            res[0] = found.cost as u64;
             res[1] = found.side;
             res[2] = found.other as u64;
             0
@@ -77,18 +77,18 @@ fn put_groups(res: &mut [u64; READ_RESULTS], answer: Answer)
 {
     for i in 0..MOST_GROUPS {
         res[GROUPS_AT + i] = answer.taxa[i];
-        res[COSTS_AT + i] = u64::from(answer.costs[i]);
+        res[COSTS_AT + i] = answer.costs[i] as u64;
     }
 }
 
 fn put_value(res: &mut [u64; READ_RESULTS], answer: Answer)
     ensures { res.new ≡ value_after (Ok answer) res.old }
 {
-    res[0] = u64::from(answer.n);
-    res[1] = u64::from(answer.m);
-    res[2] = u64::from(answer.groups);
-    res[3] = u64::from(answer.flips);
-    res[4] = u64::from(answer.total);
+    res[0] = answer.n as u64;
+    res[1] = answer.m as u64;
+    res[2] = answer.groups as u64;
+    res[3] = answer.flips as u64;
+    res[4] = answer.total as u64;
     put_groups(res, answer);
 }
 
@@ -121,7 +121,7 @@ pub fn score(answer: Result<Sums, Refusal>) -> u64
     ensures { result ≡ packed_score answer }
 {
     match answer {
-        Ok(sums) => u64::from(sums.lowers.0) + 0x8000_0000 * u64::from(sums.raises.0),
+        Ok(sums) => sums.lowers.0 as u64 + 0x8000_0000 * sums.raises.0 as u64,
         Err(why) => refusal(why),
     }
 }

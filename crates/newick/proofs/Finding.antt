@@ -10,11 +10,13 @@ use lib.ListN.{length, take}
 use lib.Seq.{length-take-le}
 use borrow.Author.Tests.{lt-ltb, le-ltb}
 use Rattle.record.specs.Bytes.{over}
-use Rattle.record.specs.Records as records
+use Rattle.record.specs.Refusals as refusals
+use Rattle.record.specs.Refusals.{refusal_number}
 use Rattle.grammar.specs.Trees.{Trees}
 use Rattle.grammar.specs.Verdict.{accepted, refused}
 use Rattle.grammar.specs.Columns.{Bytes}
 use Rattle.grammar.specs.Clerk.{outcome}
+use Rattle.grammar.proofs.Faults.{refused_known}
 use Rattle.ledger.specs.Sets.{ones_of, zeros_of}
 use Rattle.ledger.specs.inner.Ledger as ledger
 use Rattle.ledger.specs.inner.Ledger.{Ledger}
@@ -30,6 +32,7 @@ use Rattle.newick.specs.declared.Book.{Book}
 use Rattle.newick.specs.inner.Book.{ledger_in, Holds}
 use Rattle.newick.specs.inner.Found.{Found}
 use Rattle.newick.proofs.Names.{length_names}
+use Rattle.newick.proofs.Reasons.{reason_there}
 use Rattle.std.specs.Prelude.{Result, Ok, Err}
 use Rattle.record.specs.declared.refusal.Refusal.{Refusal}
 use Rattle.record.specs.declared.refusal.Reason.TheVariants as reason
@@ -54,16 +57,18 @@ found {text} {k} {r} {ts} h e =
     }
 
 -- A text that is refused.
-pub told : (text matrix names : List ℕ) {number place : ℕ} → ledger.outcome text ≡ refused number place
-    → Reads text matrix names (Err (records.refused number place)) matrix names
+pub told : (text matrix names : List ℕ) {why : Refusal} → ledger.outcome text ≡ refused (refusal_number why.reason) why.place
+    → Reads text matrix names (Err why) matrix names
 unfolding read answered output_after
-told text matrix names e =
+told text matrix names {why} e =
     let f = ledger_refused text e in
-    record { answers = rw f; numbers = rw f; matrix_output = refl; names_output = refl }
+    let (least, most, inside) = refused_known text f in
+    let same : Err why ≡ read text (length matrix) (length names) = rw (f, reason_there why.reason least most) in
+    record { answers = same; numbers = ap returned same; matrix_output = refl; names_output = refl }
 
 -- An output is "shorter than what goes into it".
 abbrev no_room : Result Derived Refusal
-no_room = Err (refused reason.Room 0)
+no_room = Err (refusals.refused reason.Room 0)
 
 module _ {text : List ℕ} {k : Book} {r : Reading} (g : Found text k r) where
   abbrev names_found : List Bytes

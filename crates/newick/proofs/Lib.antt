@@ -6,6 +6,7 @@ pub mod Lists
 pub mod OpenBrackets
 pub mod Columns
 pub mod Places
+pub mod Reasons
 pub mod Signs
 pub mod Naming
 pub mod Ends

@@ -1,14 +1,15 @@
--- Where the reader stands between two tokens: what may not stand there (`wrong_after`, `wrong_before`), and what a token's number says of it.
+-- Where the reader stands between two tokens: what may not stand there (`wrong_after`, `wrong_before`), and a token that leads further from sooner on (`led_from_sooner`).
 use mathlib.Core.Path.{◌≡◌}
 use mathlib.Core.Bool.{Bool, true, false}
 use mathlib.Core.List.{List}
-use Prim.Native.Nat.{ℕ, zero, suc, ◌≤◌, ◌<◌}
+use Prim.Native.Nat.{ℕ, ◌<◌}
 use native.Mathlib.Omega.{arith}
 use lib.ListN.{length, get_or}
+use Rattle.std.specs.Prelude.{Result, Ok, Err}
 use Rattle.taxa.specs.Sets.{within}
+use Rattle.record.specs.declared.refusal.Refusal.{Refusal}
 use Rattle.grammar.specs.Bytes.{byte, is_blank, is_letter, left, right, comma, semicolon}
-use Rattle.grammar.specs.Trees.{Trees}
-use Rattle.grammar.specs.Verdict.{accepted, refused}
+use Rattle.grammar.specs.Verdict.{refused}
 use Rattle.grammar.specs.inner.Shape.{beginning, ended}
 use Rattle.grammar.specs.inner.Standing.{Run, Standing}
 use Rattle.grammar.proofs.Standing.{skips, cannot_begin, cannot_follow}
@@ -16,7 +17,7 @@ use Rattle.ledger.specs.inner.Ledger.{unwritten, note, outcome}
 use Rattle.newick.specs.declared.Reading.{Reading}
 use Rattle.newick.specs.declared.Book.{Book}
 use Rattle.newick.specs.inner.Book.{Bracketed, filled_in, ledger_in, Holds}
-use Rattle.newick.specs.inner.Book.{LeadsBy, EndsBy, standing}
+use Rattle.newick.specs.inner.Book.{Leads, standing}
 
 -- Neither hints nor names say anything of the brackets, nor do the place and the tree's names so far.
 pub still_bracketed : {k : Book} {r : Reading} → Bracketed k r → (hints places sizes : List ℕ) (at : ℕ) (e : Bool) (taxa here : ℕ)
@@ -67,23 +68,7 @@ module _ {text : List ℕ} {k : Book} {r : Reading} (h : Holds text k r) where
     stands = skips h.stands run;
   }
 
-module _ (text : List ℕ) (k : Book) (r : Reading) where
-  pub led_on : (from n : ℕ) → n ≤ 0 → LeadsBy text k from r n → Holds text k r × (from < r.at) × (r.at ≤ length text)
-  led_on from zero l s = s
-  led_on from (suc n) l s = absurd (omega arith)
-
-  pub led_from_sooner : (from later n : ℕ) → from < later → LeadsBy text k later r n → LeadsBy text k from r n
-  led_from_sooner from later zero l (h, after, within) = (h, omega (arith, after), within)
-  led_from_sooner from later (suc n) l s = s
-
-  pub led_to_end : (from n : ℕ) → 0 < n → LeadsBy text k from r n → EndsBy text k r n
-  led_to_end from zero l s = absurd (omega arith)
-  led_to_end from (suc n) l s = s
-
-  pub ended_well : (n : ℕ) → n ≤ 0 → EndsBy text k r n → Holds text k r × (ts : Trees) × (outcome text ≡ accepted ts (ledger_in text k r))
-  ended_well zero l s = s
-  ended_well (suc n) l s = absurd (omega arith)
-
-  pub ended_ill : (n : ℕ) → 0 < n → EndsBy text k r n → outcome text ≡ refused n r.at
-  ended_ill zero l s = absurd (omega arith)
-  ended_ill (suc n) l s = s
+module _ (text : List ℕ) (k : Book) where
+  pub led_from_sooner : (from later : ℕ) (r : Result Reading Refusal) → from < later → Leads text k later r → Leads text k from r
+  led_from_sooner from later (Ok r) l (h, after, within) = (h, omega (arith, after), within)
+  led_from_sooner from later (Err why) l s = s

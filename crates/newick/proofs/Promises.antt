@@ -9,7 +9,8 @@ use native.Mathlib.Omega.{arith}
 use lib.ListN.{length, get_or, get_or-map}
 use lib.Seq.{take_at}
 use Rattle.record.specs.Bytes.{over}
-use Rattle.record.specs.Records as records
+use Rattle.record.specs.Refusals as refusals
+use Rattle.record.specs.Refusals.{refusal_number}
 use Rattle.grammar.specs.Trees.{Trees}
 use Rattle.grammar.specs.Columns.{Bytes, Column, all_columns}
 use Rattle.grammar.specs.Limits.{taxa}
@@ -34,6 +35,7 @@ use Rattle.names.proofs.Lists.{length_list}
 use Rattle.newick.specs.Read.{matrix_file, name_list, read, output_after, returned, read_numbers, Reads}
 use Rattle.newick.specs.Held.{SourceTrees, matrix_of_trees, matrix_room, names_room, Fit, Short, Leaves, Encodes}
 use Rattle.newick.proofs.Taken.{Comes, taken, short, faulty, trees_accepted, read_taken, read_short, comes}
+use Rattle.newick.proofs.Reasons.{number_there}
 use Rattle.newick.proofs.Taken.{matrix_legal, length_columns, names_legal, column_of, encoded}
 use Rattle.std.specs.Prelude.{Result, Ok, Err}
 use Rattle.record.specs.declared.refusal.Refusal.{Refusal}
@@ -54,7 +56,7 @@ module _ (text : List ℕ) (room space : ℕ) where
       back : {r : Result Derived Refusal} → Comes text room space r → number_of r ≡ 0 → (ts : Trees) × SourceTrees text ts × Fit ts room space
       back (taken ts s f) e = (ts, s, f)
       back (short ts s a) e = absurd (omega arith)
-      back (faulty number place f) e = absurd (omega (arith, (refused_known text f).0))
+      back (faulty number place f) e = let (least, most, inside) = refused_known text f in absurd (omega (arith, e, number_there number least most, least))
 
   -- 10, "shorter than what goes into it", and after all others: the text spells trees within the limits, and one of the files has no room.
   pub ten_exactly : ((ts : Trees) × SourceTrees text ts × Short ts room space) ↔ ((read_numbers text room space).number ≡ 10)
@@ -63,26 +65,30 @@ module _ (text : List ℕ) (room space : ℕ) where
       back : {r : Result Derived Refusal} → Comes text room space r → number_of r ≡ 10 → (ts : Trees) × SourceTrees text ts × Short ts room space
       back (taken ts s f) e = absurd (omega arith)
       back (short ts s a) e = (ts, s, a)
-      back (faulty number place f) e = absurd (omega (arith, (refused_known text f).0))
+      back (faulty number place f) e = let (least, most, inside) = refused_known text f in absurd (omega (arith, e, number_there number least most, least))
 
-  refused : {number place : ℕ} → Err (records.refused number place) ≡ read text room space → number ≢ 10 → outcome text ≡ verdict.refused number place
-  refused {number} {place} e other = back (comes text room space) e
+  refused : {why : Refusal} → Err why ≡ read text room space → refusal_number why.reason ≢ 10
+      → outcome text ≡ verdict.refused (refusal_number why.reason) why.place
+  refused {why} e other = back (comes text room space) e
     where
-      back : {r : Result Derived Refusal} → Comes text room space r → Err (records.refused number place) ≡ r → outcome text ≡ verdict.refused number place
+      back : {r : Result Derived Refusal} → Comes text room space r → Err why ≡ r → outcome text ≡ verdict.refused (refusal_number why.reason) why.place
       back (taken ts s f) e = let z : ◌≡◌ {A = ℕ} 0 1 = cc in absurd (omega arith)
       back (short ts s a) e = absurd (other (ap number_of e))
-      back (faulty r p f) e = rw (ap number_of e, ap (λ (r : Result Derived Refusal). (returned r).place) e) f
+      back (faulty number place f) e =
+          let (least, most, inside) = refused_known text f in
+          rw (ap number_of e ∙ number_there number least most, ap (λ (r : Result Derived Refusal). (returned r).place) e) f
 
   -- Any other refusal is the first of all that is wrong with the text: one of 16 to 20, in the text or at its end.
-  pub refused_first : {number place : ℕ} → Err (records.refused number place) ≡ read text room space → number ≢ 10
-      → FirstOf (faults_of text) (record { number = number; place = place }) × (16 ≤ number) × (number ≤ 20) × (place ≤ length text)
-  refused_first {number} {place} e other =
+  pub refused_first : {why : Refusal} → Err why ≡ read text room space → refusal_number why.reason ≢ 10
+      → FirstOf (faults_of text) (record { number = refusal_number why.reason; place = why.place }) × (16 ≤ refusal_number why.reason)
+      × (refusal_number why.reason ≤ 20) × (why.place ≤ length text)
+  refused_first {why} e other =
       let f = refused e other in
       let (least, most, inside) = refused_known text f in
       (faults.refused_first text f, least, most, inside)
 
   -- "16 not of this grammar, or no tree, at the first byte that cannot stand there or the file's end".
-  pub sixteen_there : {place : ℕ} → Err (refused reason.Misfit place) ≡ read text room space → Fault text place
+  pub sixteen_there : {place : ℕ} → Err (refusals.refused reason.Misfit place) ≡ read text room space → Fault text place
   sixteen_there e = place_16 text (refused e (λ f. absurd (omega arith)))
 
 -- ---- what is left
@@ -101,7 +107,9 @@ module _ {text matrix names : List ℕ} (l : Leaves text matrix names) where
         go : {r : Result Derived Refusal} → Comes text (length l.matrix_output) (length l.names_output) r → l.r ≡ r → l.r ≡ Ok (record { matrix = matrix_room ts; names = names_room ts })
         go (taken us t f) e = e ∙ ap (λ (us : Trees). Ok (record { matrix = matrix_room us; names = names_room us })) (unique t.spelt s.spelt)
         go (short us t a) e = absurd (omega (arith, ap number_of e, l.success))
-        go (faulty number place f) e = absurd (omega (arith, ap number_of e, l.success, (refused_known text f).0))
+        go (faulty number place f) e =
+            let (least, most, inside) = refused_known text f in
+            absurd (omega (arith, ap number_of e, l.success, number_there number least most, least))
 
     -- "Out come a matrix file and a name list": the files of the trees' matrix and of their taxa.
     pub leaves_files : (matrix ≡ file_of (matrix_of_trees ts)) × (names ≡ list_of (taxa ts))
@@ -183,7 +191,9 @@ reading_trees_succeeds {text} {matrix} {names} {r} x = (λ e. go (comes text (le
     go : {q : Result Derived Refusal} → Comes text (length matrix) (length names) q → r ≡ q → number_of r ≡ 0 → (a : ℕ) × (b : ℕ) × (r ≡ Ok (record { matrix = a; names = b }))
     go (taken ts s f) e z = (matrix_room ts, names_room ts, e)
     go (short ts s a) e z = absurd (omega (arith, ap number_of e))
-    go (faulty number place f) e z = absurd (omega (arith, ap number_of e, (refused_known text f).0))
+    go (faulty number place f) e z =
+        let (least, most, inside) = refused_known text f in
+        absurd (omega (arith, ap number_of e, number_there number least most, least))
 
 -- "A refusal returns its number and place, 0 for every other number, and changes no lent memory."
 pub refused_reading_trees : {text matrix names : List ℕ} {r : Result Derived Refusal} {matrix' names' : List ℕ} → Reads text matrix names r matrix' names'

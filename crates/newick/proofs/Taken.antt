@@ -12,7 +12,7 @@ use lib.ListN.{length, get_or, length-map}
 use borrow.Author.Tests.{le-ltb, lt-ltb}
 use Rattle.taxa.specs.Sets.{◌∈◌, ◌∉◌}
 use Rattle.taxa.proofs.Members.{in∖}
-use Rattle.record.specs.Records as records
+use Rattle.record.specs.Refusals as refusals
 use Rattle.grammar.specs.Trees.{Trees}
 use Rattle.grammar.specs.Columns.{Bytes, Column, all_columns}
 use Rattle.grammar.specs.Limits.{taxa}
@@ -27,7 +27,7 @@ use Rattle.matrix.specs.Matrix as matrix
 use Rattle.matrix.specs.declared.Column as matrix-column
 use Rattle.matrix.specs.Matrix.{absent, LegalColumns, none, one}
 use Rattle.names.specs.Names as names
-use Rattle.newick.specs.Read.{matrix_for, answered, read}
+use Rattle.newick.specs.Read.{matrix_for, reason_of, answered, read}
 use Rattle.newick.specs.Held.{SourceTrees, matrix_of_trees, matrix_room, names_room, Fit, Short, Encodes}
 use Rattle.std.specs.Prelude.{Result, Ok, Err}
 use Rattle.record.specs.declared.refusal.Refusal.{Refusal}
@@ -38,8 +38,8 @@ use Rattle.newick.specs.declared.Derived.{Derived}
 
 pub data Comes (text : List ℕ) (room space : ℕ) : Result Derived Refusal → Type 0 where
   taken : (ts : Trees) → SourceTrees text ts → Fit ts room space → Comes text room space (Ok (record { matrix = matrix_room ts; names = names_room ts }))
-  short : (ts : Trees) → SourceTrees text ts → Short ts room space → Comes text room space (Err (refused reason.Room 0))
-  faulty : (number place : ℕ) → outcome text ≡ refused number place → Comes text room space (Err (records.refused number place))
+  short : (ts : Trees) → SourceTrees text ts → Short ts room space → Comes text room space (Err (refusals.refused reason.Room 0))
+  faulty : (number place : ℕ) → outcome text ≡ refused number place → Comes text room space (Err (refusals.refused (reason_of number) place))
 
 module _ {text : List ℕ} {ts : Trees} (s : SourceTrees text ts) where
   pub trees_accepted : outcome text ≡ accepted ts (between (taxa ts) (all_columns ts))
@@ -49,17 +49,17 @@ module _ {text : List ℕ} {ts : Trees} (s : SourceTrees text ts) where
   unfolding read answered
   read_taken room space (a, b) = rw (trees_accepted, le-ltb room (matrix_room ts) a, le-ltb space (names_room ts) b)
 
-  pub read_short : (room space : ℕ) → Short ts room space → read text room space ≡ Err (refused reason.Room 0)
+  pub read_short : (room space : ℕ) → Short ts room space → read text room space ≡ Err (refusals.refused reason.Room 0)
   unfolding read answered
   read_short room space (inl a) = rw (trees_accepted, lt-ltb room (matrix_room ts) a)
   read_short room space (inr b) = rw (trees_accepted, lt-ltb space (names_room ts) b) (either (ltb room (matrix_room ts)))
     where
-      either : (c : Bool) → cond (c || true) (Err (refused reason.Room 0)) (Ok (record { matrix = matrix_room ts; names = names_room ts })) ≡ Err (refused reason.Room 0)
+      either : (c : Bool) → cond {A = Result Derived Refusal} (c || true) (Err (refusals.refused reason.Room 0)) (Ok (record { matrix = matrix_room ts; names = names_room ts })) ≡ Err (refusals.refused reason.Room 0)
       either true = refl
       either false = refl
 
 read_faulty : (text : List ℕ) {number place : ℕ} (room space : ℕ) → outcome text ≡ refused number place
-    → read text room space ≡ Err (records.refused number place)
+    → read text room space ≡ Err (refusals.refused (reason_of number) place)
 unfolding read answered
 read_faulty text room space e = rw e
 

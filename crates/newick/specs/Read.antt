@@ -1,7 +1,6 @@
 -- The operation "read source trees" (document 02, C-11): a Newick text, and two lent outputs, for a matrix file and for a name list.
-use Rattle.std.specs.Prelude.{◌≡◌, ◌||◌, cond, List, [], map, ℕ, ltb, length, Result, Ok, Err}
+use Rattle.std.specs.Prelude.{◌≡◌, ◌||◌, cond, List, [], map, ℕ, ltb, eqb, length, Result, Ok, Err}
 use Rattle.record.specs.Bytes.{over}
-use Rattle.record.specs.Records as records
 use Rattle.grammar.specs.Columns.{Bytes, Column}
 use Rattle.grammar.specs.Verdict.{Verdict, accepted, refused}
 use Rattle.grammar.specs.Clerk.{Tally, outcome}
@@ -9,7 +8,9 @@ use Rattle.ledger.specs.Sets.{ones_of, zeros_of}
 use Rattle.matrix.specs.Matrix.{Matrix, file_of}
 use Rattle.names.specs.Names.{list_of}
 use Rattle.record.specs.declared.refusal.Refusal.{Refusal}
+use Rattle.record.specs.declared.refusal.Reason.{Reason}
 use Rattle.record.specs.declared.refusal.Reason.TheVariants as reason
+use Rattle.record.specs.Refusals as refusals
 use Rattle.record.specs.Refusals.{refusal_number}
 use Rattle.newick.specs.declared.Derived.{Derived}
 
@@ -30,12 +31,20 @@ abbrev pub name_list : Verdict Tally → List ℕ
 name_list (accepted ts x) = list_of x.taxa
 name_list (refused number place) = []
 
+-- "16 not of this grammar, or no tree", "17 name too long", "18 name twice in one tree", "19 more than 64 names or 256 columns", "20 brackets nested above 64".
+unfoldable pub reason_of : ℕ → Reason
+reason_of number =
+    cond (eqb number 17) reason.LongName
+    (cond (eqb number 18) reason.Repeated
+    (cond (eqb number 19) reason.TooMany
+    (cond (eqb number 20) reason.TooDeep reason.Misfit)))
+
 -- The text's refusals come first, then 10, "shorter than what goes into it"; `room` and `space` are the lengths of the outputs, for the matrix and
 -- for the names.
 unfoldable pub answered : Verdict Tally → ℕ → ℕ → Result Derived Refusal
-answered (refused number place) room space = Err (records.refused number place)
+answered (refused number place) room space = Err (refusals.refused (reason_of number) place)
 answered (accepted ts x) room space =
-    cond (ltb room (length (matrix_file (accepted ts x))) || ltb space (length (name_list (accepted ts x)))) (Err (refused reason.Room 0))
+    cond (ltb room (length (matrix_file (accepted ts x))) || ltb space (length (name_list (accepted ts x)))) (Err (refusals.refused reason.Room 0))
     (Ok (record { matrix = length (matrix_file (accepted ts x)); names = length (name_list (accepted ts x)) }))
 
 -- What reading a text answers: the lengths of what is written.

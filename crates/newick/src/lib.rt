@@ -10,16 +10,13 @@ mod reader;
 mod scan;
 mod tokens;
 
-ghost use Rattle.std.specs.Prelude.{◌≡◌};
-ghost use Rattle.record.specs.Records as records;
-ghost use Rattle.newick.specs.declared.Derived.TheVariants as derived;
 ghost use Rattle.newick.specs.Read.{Reads};
 ghost use Rattle.newick.specs.inner.Book.{Roomy};
 ghost use Rattle.newick.specs.inner.Found.{Found};
 
 use letters::Letters;
 use matrix::writer::put_matrix;
-use record::Refusal;
+use record::refusal::{Reason, Refusal};
 
 // The most names, the most columns and the most open brackets; and how many hints there are.
 const TAXA: usize = 64;
@@ -59,14 +56,6 @@ pub struct Reading {
     pub depth: usize,
 }
 
-// What a token comes to: where the reader stands then; with a number other than 0 that is the place of this refusal. (No enum, so that what is read stays
-// in the processor's registers: bench/newick.sh.)
-#[derive(Clone, Copy)]
-pub struct Stepped {
-    pub reading: Reading,
-    pub refusal: u8,
-}
-
 // The bytes of a name, eight by eight.
 #[derive(Clone, Copy, PartialEq, Eq)]
 pub struct Words {
@@ -76,21 +65,11 @@ pub struct Words {
     pub last: u64,
 }
 
-// What reading answers: the lengths of the matrix file and of the name list, or the refusal.
+// What reading leaves: the lengths of the matrix file and of the name list.
 #[derive(Clone, Copy)]
-pub enum Derived {
-    Taken(usize, usize),
-    Refused(Refusal),
-}
-
-// An output is shorter than what goes into it.
-fn no_room() -> Derived
-    ensures { result ≡ derived.Refused (records.refused 10 0) }
-{
-    Derived::Refused(Refusal {
-        number: 10,
-        place: 0,
-    })
+pub struct Derived {
+    pub matrix: usize,
+    pub names: usize,
 }
 
 // What was found, written where both outputs have room.
@@ -100,17 +79,17 @@ fn write_found(
     end: Reading,
     matrix: &mut [u8],
     names: &mut [u8],
-) -> Derived
+) -> Result<Derived, Refusal>
     requires { Found text.now book.now end }
     ensures { Reads text.now matrix.old names.old result matrix.new names.new }
 {
     let file = 12 + 22 * end.columns;
     let list = book.list_length(end.taxa);
     if matrix.len() < file {
-        return no_room();
+        return Err(Reason::Room.at(0));
     }
     if names.len() < list {
-        return no_room();
+        return Err(Reason::Room.at(0));
     }
     put_matrix(
         matrix,
@@ -120,27 +99,28 @@ fn write_found(
         end.columns,
     );
     book.put_list(names, text, end.taxa);
-    Derived::Taken(file, list)
+    Ok(Derived {
+        matrix: file,
+        names: list,
+    })
 }
 
 // The operation, with the lists that the reader keeps.
-fn read_with(book: &mut Book, text: &[u8], matrix: &mut [u8], names: &mut [u8]) -> Derived
+fn read_with(
+    book: &mut Book,
+    text: &[u8],
+    matrix: &mut [u8],
+    names: &mut [u8],
+) -> Result<Derived, Refusal>
     requires { Roomy book.old }
     ensures { Reads text.now matrix.old names.old result matrix.new names.new }
 {
-    let last = book.read_text(&Letters::new(), text);
-    let end = last.reading;
-    if 0 < last.refusal {
-        return Derived::Refused(Refusal {
-            number: last.refusal,
-            place: end.at,
-        });
-    }
+    let end = book.read_text(&Letters::new(), text)?;
     write_found(text, book, end, matrix, names)
 }
 
 // The operation "read source trees".
-pub fn read(text: &[u8], matrix: &mut [u8], names: &mut [u8]) -> Derived
+pub fn read(text: &[u8], matrix: &mut [u8], names: &mut [u8]) -> Result<Derived, Refusal>
     ensures { Reads text.now matrix.old names.old result matrix.new names.new }
 {
     let mut book = Book {

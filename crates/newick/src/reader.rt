@@ -6,7 +6,8 @@ ghost use Rattle.newick.specs.inner.Book.{Holds, Ends, Roomy};
 
 use super::letters::Letters;
 use super::scan::after_blanks;
-use super::{Book, Reading, Stepped};
+use super::{Book, Reading};
+use record::refusal::{Reason, Refusal};
 
 impl Reading {
     // Before the first token.
@@ -33,30 +34,27 @@ impl Reading {
     }
 
     // The end of the text: it may come behind a finished tree, before another begins.
-    fn take_end(self) -> Stepped
+    fn take_end(self) -> Result<Reading, Refusal>
         ensures { (text : List ℕ) (k : Book) → Holds text k self → self.at ≡ length text → Ends text k result }
     {
         if !self.ended && self.finished && self.depth == 0 {
-            Stepped::on(self)
+            Ok(self)
         } else {
-            Stepped::refused(16, self.at, self)
+            Err(Reason::Misfit.at(self.at))
         }
     }
 }
 
 impl Book {
     // The whole text.
-    pub fn read_text(&mut self, letters: &Letters, text: &[u8]) -> Stepped
+    pub fn read_text(&mut self, letters: &Letters, text: &[u8]) -> Result<Reading, Refusal>
         requires { Roomy self.old }
         ensures { Ends text.now self.new result }
     {
         let mut here = Reading::START.past_blanks(text);
         while here.at < text.len() {
-            let next = self.take_token(letters, text, here);
-            if 0 < next.refusal {
-                return next;
-            }
-            here = next.reading.past_blanks(text);
+            let next = self.take_token(letters, text, here)?;
+            here = next.past_blanks(text);
         }
         here.take_end()
     }

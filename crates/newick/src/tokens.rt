@@ -1,5 +1,5 @@
 // The tokens of a text, one by one: what each is refused for, and what is kept of it.
-ghost use Rattle.std.specs.Prelude.{◌≡◌, true, false, List, ◌++◌, map, ℕ, ◌+◌, ◌-◌, ◌≤◌, ◌<◌, length, get_or, take, drop};
+ghost use Rattle.std.specs.Prelude.{◌≡◌, true, false, List, ◌++◌, map, ℕ, ◌+◌, ◌-◌, ◌≤◌, ◌<◌, length, get_or, take, drop, Ok};
 ghost use Rattle.taxa.specs.Sets.{◌∖◌};
 ghost use Rattle.grammar.specs.Bytes.{is_blank, is_letter, byte, left, right, comma, semicolon};
 ghost use Rattle.grammar.specs.inner.Standing.{Run};
@@ -9,7 +9,8 @@ ghost use Rattle.newick.specs.inner.Book.{Bracketed, SignAt, Holds, NameTo, Lead
 
 use super::hints::hint;
 use super::letters::Letters;
-use super::{Book, COLUMNS, DEPTH, Reading, Stepped, TAXA};
+use super::{Book, COLUMNS, DEPTH, Reading, TAXA};
+use record::refusal::{Reason, Refusal};
 
 // The most bytes of a name.
 const NAME_BYTES: usize = 32;
@@ -46,37 +47,15 @@ impl Reading {
     }
 }
 
-impl Stepped {
-    // The reader stands further on.
-    pub fn on(reading: Reading) -> Self
-        ensures { result ≡ record { reading = reading; refusal = 0 } }
-    {
-        Stepped {
-            reading,
-            refusal: 0,
-        }
-    }
-
-    // The text is refused by a number, at a place.
-    pub fn refused(number: u8, place: usize, from: Reading) -> Self
-        ensures { result ≡ record { reading = standing from place; refusal = number } }
-    {
-        Stepped {
-            reading: from.standing(place),
-            refusal: number,
-        }
-    }
-}
-
 // A name that the file has, taxon i.
-fn take_known(from: Reading, end: usize, i: usize) -> Stepped
+fn take_known(from: Reading, end: usize, i: usize) -> Result<Reading, Refusal>
     requires { i < 64 }
     ensures { (text : List ℕ) (k : Book) → Holds text k from → from.ended ≡ false → NameTo text k from end i → Leads text k from.at result }
 {
     if taxa::subset(taxa::single(i as u32), from.here) {
-        Stepped::refused(18, from.at, from)
+        Err(Reason::Repeated.at(from.at))
     } else {
-        Stepped::on(from.behind_name(end, from.taxa, i))
+        Ok(from.behind_name(end, from.taxa, i))
     }
 }
 
@@ -111,7 +90,7 @@ fn may_follow(b: u8) -> bool
 
 impl Book {
     // A name for which there is no right hint. A new one gets the next number.
-    fn take_listed(&mut self, text: &[u8], from: Reading, end: usize) -> Stepped
+    fn take_listed(&mut self, text: &[u8], from: Reading, end: usize) -> Result<Reading, Refusal>
         requires { Placed text.now self.old.starts self.old.sizes from.taxa
             × Run is_letter text.now from.at end
             × (from.at < end)
@@ -121,7 +100,7 @@ impl Book {
         let size = end - from.at;
         let i = self.number_of(text, from.taxa, from.at, size);
         if TAXA <= i {
-            return Stepped::refused(19, from.at, from);
+            return Err(Reason::TooMany.at(from.at));
         }
         hint(&mut self.hints, text, from.at, size, i);
         if i < from.taxa {
@@ -129,11 +108,16 @@ impl Book {
         }
         self.starts[i] = from.at;
         self.sizes[i] = size;
-        Stepped::on(from.behind_name(end, i + 1, i))
+        Ok(from.behind_name(end, i + 1, i))
     }
 
     // A name, whose first letter was seen.
-    fn take_name(&mut self, letters: &Letters, text: &[u8], from: Reading) -> Stepped
+    fn take_name(
+        &mut self,
+        letters: &Letters,
+        text: &[u8],
+        from: Reading,
+    ) -> Result<Reading, Refusal>
         requires { Placed text.now self.old.starts self.old.sizes from.taxa
             × (from.at < length text.now)
             × (is_letter (get_or text.now from.at 0) ≡ true) }
@@ -142,7 +126,7 @@ impl Book {
         let end = letters.end(text, from.at + 1);
         let size = end - from.at;
         if NAME_BYTES < size {
-            return Stepped::refused(17, from.at + NAME_BYTES, from);
+            return Err(Reason::LongName.at(from.at + NAME_BYTES));
         }
         let i = self.hinted(text, from.taxa, from.at, size);
         if i < from.taxa {
@@ -153,7 +137,7 @@ impl Book {
     }
 
     // A bracket that opens.
-    fn take_left(&mut self, from: Reading, next: usize) -> Stepped
+    fn take_left(&mut self, from: Reading, next: usize) -> Result<Reading, Refusal>
         requires { Bracketed self.old from }
         ensures { (text : List ℕ) → Holds text self.old from
             → from.ended ≡ false
@@ -161,17 +145,17 @@ impl Book {
             → Leads text self.new from.at result }
     {
         if COLUMNS < from.columns + from.opened {
-            return Stepped::refused(19, from.at, from);
+            return Err(Reason::TooMany.at(from.at));
         }
         let depth = from.depth;
         if depth == DEPTH {
-            return Stepped::refused(20, from.at, from);
+            return Err(Reason::TooDeep.at(from.at));
         }
         put_clade(&mut self.ones, from.columns, from.opened, 0);
         self.index[depth] = from.opened;
         self.before[depth] = from.here;
         self.filled[depth] = false;
-        Stepped::on(Reading {
+        Ok(Reading {
             at: next,
             ended: false,
             opened: from.opened + 1,
@@ -181,7 +165,7 @@ impl Book {
     }
 
     // A bracket that closes: its clade are the names since it opened.
-    fn take_right(&mut self, from: Reading, next: usize) -> Stepped
+    fn take_right(&mut self, from: Reading, next: usize) -> Result<Reading, Refusal>
         requires { Bracketed self.old from }
         ensures { (text : List ℕ) → Holds text self.old from
             → from.ended ≡ true
@@ -189,15 +173,15 @@ impl Book {
             → Leads text self.new from.at result }
     {
         if from.depth == 0 {
-            return Stepped::refused(16, from.at, from);
+            return Err(Reason::Misfit.at(from.at));
         }
         let last = from.depth - 1;
         if !self.filled[last] {
-            return Stepped::refused(16, from.at, from);
+            return Err(Reason::Misfit.at(from.at));
         }
         let clade = taxa::difference(from.here, self.before[last]);
         put_clade(&mut self.ones, from.columns, self.index[last], clade);
-        Stepped::on(Reading {
+        Ok(Reading {
             at: next,
             ended: true,
             depth: last,
@@ -206,7 +190,7 @@ impl Book {
     }
 
     // A comma: in the last open bracket a subtree is finished.
-    fn take_comma(&mut self, from: Reading, next: usize) -> Stepped
+    fn take_comma(&mut self, from: Reading, next: usize) -> Result<Reading, Refusal>
         requires { from.depth ≤ 64 }
         ensures { (text : List ℕ) → Holds text self.old from
             → from.ended ≡ true
@@ -214,10 +198,10 @@ impl Book {
             → Leads text self.new from.at result }
     {
         if from.depth == 0 {
-            return Stepped::refused(16, from.at, from);
+            return Err(Reason::Misfit.at(from.at));
         }
         self.filled[from.depth - 1] = true;
-        Stepped::on(Reading {
+        Ok(Reading {
             at: next,
             ended: false,
             ..from
@@ -225,7 +209,7 @@ impl Book {
     }
 
     // A semicolon: a tree is finished, and its clades are columns.
-    fn take_semicolon(&mut self, from: Reading, next: usize) -> Stepped
+    fn take_semicolon(&mut self, from: Reading, next: usize) -> Result<Reading, Refusal>
         requires { Bracketed self.old from }
         ensures { (text : List ℕ) → Holds text self.old from
             → from.ended ≡ true
@@ -233,11 +217,11 @@ impl Book {
             → Leads text self.new from.at result }
     {
         if 0 < from.depth {
-            return Stepped::refused(16, from.at, from);
+            return Err(Reason::Misfit.at(from.at));
         }
         let columns = from.columns + from.opened.saturating_sub(1);
         fill_zeros(&self.ones, &mut self.zeros, from, columns);
-        Stepped::on(Reading {
+        Ok(Reading {
             at: next,
             ended: false,
             finished: true,
@@ -250,7 +234,7 @@ impl Book {
     }
 
     // A sign that may follow, at which the reader stands behind a subtree.
-    fn take_sign(&mut self, text: &[u8], from: Reading) -> Stepped
+    fn take_sign(&mut self, text: &[u8], from: Reading) -> Result<Reading, Refusal>
         requires { Bracketed self.old from × (from.at < length text.now) × (may_follow (get_or text.now from.at 0) ≡ true) }
         ensures { Holds text.now self.old from → from.ended ≡ true → Leads text.now self.new from.at result }
     {
@@ -262,25 +246,25 @@ impl Book {
         }
     }
 
-    // What a name comes to, with the sign right behind it if there is one: that saves most turns of the reader.
-    fn with_sign(&mut self, text: &[u8], named: Stepped) -> Stepped
-        requires { named.refusal ≤ 0 → Bracketed self.old named.reading }
-        ensures { (from : ℕ) → Leads text.now self.old from named → Leads text.now self.new from result }
+    // Behind a name, past the sign right behind it if there is one: that saves most turns of the reader.
+    fn with_sign(&mut self, text: &[u8], named: Reading) -> Result<Reading, Refusal>
+        requires { Bracketed self.old named }
+        ensures { (from : ℕ) → Leads text.now self.old from (Ok named) → Leads text.now self.new from result }
     {
-        let behind = named.reading;
-        if named.refusal == 0
-            && behind.ended
-            && behind.at < text.len()
-            && may_follow(text[behind.at])
-        {
-            self.take_sign(text, behind)
+        if named.ended && named.at < text.len() && may_follow(text[named.at]) {
+            self.take_sign(text, named)
         } else {
-            named
+            Ok(named)
         }
     }
 
     // The token at which the reader stands.
-    pub fn take_token(&mut self, letters: &Letters, text: &[u8], from: Reading) -> Stepped
+    pub fn take_token(
+        &mut self,
+        letters: &Letters,
+        text: &[u8],
+        from: Reading,
+    ) -> Result<Reading, Refusal>
         requires { Holds text.now self.old from × (from.at < length text.now) × (is_blank (get_or text.now from.at 0) ≡ false) }
         ensures { Leads text.now self.new from.at result }
     {
@@ -290,11 +274,11 @@ impl Book {
                 return self.take_sign(text, from);
             }
         } else if letters.is_at(text, at) {
-            let named = self.take_name(letters, text, from);
+            let named = self.take_name(letters, text, from)?;
             return self.with_sign(text, named);
         } else if text[at] == LEFT {
             return self.take_left(from, at + 1);
         }
-        Stepped::refused(16, at, from)
+        Err(Reason::Misfit.at(at))
     }
 }

@@ -16,7 +16,7 @@ use flipcut::matrices::{flipcut_build, flipcut_check, flipcut_score, flipcut_spl
 use matrix::Shape;
 use record::refusal::Refusal;
 use score::Sums;
-use search::Split;
+use search::{Lists, Split};
 use tree::Built;
 
 // Check a matrix.
@@ -90,11 +90,7 @@ pub fn search(
     ensures { FlowStands n (multiplicity_in planes.now) m (cols_of weights.now ones.now zeros.now) group workspace.new result.cost result.side result.other
         × Kept (arc_count m (cols_of weights.now ones.now zeros.now) group) workspace.old workspace.new }
 {
-    let mut joined = [0u64; 256];
-    let mut limits = [0u32; 320];
-    let mut offsets = [0u16; 257];
-    let mut used = [0u32; 256];
-    let mut tree = [0u32; 256];
+    let mut lists = Lists::new();
     search::divide(
         weights,
         planes,
@@ -104,10 +100,6 @@ pub fn search(
         n,
         m,
         workspace,
-        &mut joined,
-        &mut limits,
-        &mut offsets,
-        &mut used,
-        &mut tree,
+        &mut lists,
     )
 }

@@ -52,6 +52,10 @@ unfolding caps
 caps_small {W} {P} {J} z c b i = cond_le (has (nth J c) i) (arc_small P (z.light c b) i)
 
 module _ {W P J L F : List ℕ} {n m : ℕ} {ws : List ℤ} {U : List ℕ} where
+  -- t is one of 64 taxa.
+  pub sink_low : {X t k : ℕ} → Flowing W P J L F n m ws U X t k → t < 64
+  sink_low f = omega (arith, f.sink, f.ready.net.taxa)
+
   -- "127 x 256 x 65,535": a flow is at most what its sink can take, which is what the set of all other taxa costs at most.
   pub size_small : {X t k : ℕ} → Flowing W P J L F n m ws U X t k → k ≤ flow_most
   size_small {X} {t} f =

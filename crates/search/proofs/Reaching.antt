@@ -45,6 +45,10 @@ pub in_caps : (W P J : List ℕ) (c i : ℕ) → 0 < caps W P J c i → has (nth
 unfolding caps
 in_caps W P J c i h = cond_some (has (nth J c) i) (arc W P c i) h
 
+-- A taxon that a column joins is one of 64.
+pub joins_low : {W P J L F : List ℕ} {n m : ℕ} {ws : List ℤ} {U : List ℕ} {c i : ℕ} → Ready W P J L F n m ws U → c < m → has (nth J c) i ≡ true → i < 64
+joins_low {c = c} {i = i} r b h = omega (arith, r.net.low c b i h, r.net.taxa)
+
 module _ {W P J L F : List ℕ} {n m : ℕ} {ws : List ℤ} {U : List ℕ} (r : Ready W P J L F n m ws U) {c : ℕ} (bc : c < m) where
   -- A pair that it joins has its place.
   pub pair : (j : ℕ) → has (nth J c) j ≡ true → Pair J F ws c j

@@ -4,3 +4,4 @@ pub mod Network
 pub mod Reaching
 pub mod Flows
 pub mod Trying
+pub mod On

@@ -8,6 +8,8 @@ ghost use Rattle.search.specs.Search.{nth};
 ghost use Rattle.search.specs.inner.Network.{CanHop};
 ghost use Rattle.method.proofs.Carry.{Hopped};
 
+use crate::networks::Network;
+
 // What goes out, where f is a flow out, or nothing.
 fn out_of(f: i32) -> u32
     ensures { result ≡ out_of f }
@@ -73,19 +75,12 @@ pub fn clear(ws: &mut [i32], len: usize)
     }
 }
 
-pub fn wide(x: u16) -> u32
-    ensures { (result ≡ x) × (result < 65536) }
-{
-    x as u32
-}
-
 // The places of the first m columns become 0, and the rest stay.
 pub fn clear_places(ws: &mut [i32], offsets: &[u16; 257], m: usize)
     requires { (m ≤ 256) × (nth offsets.now m ≤ length ws.old) }
     ensures { ws.new ≡ cleared (nth offsets.now m) ws.old }
 {
-    let places = wide(offsets[m]) as usize;
-    clear(ws, places);
+    clear(ws, usize::from(offsets[m]));
 }
 
 // What a column joins, and where its places start.
@@ -95,13 +90,28 @@ pub struct Column {
     pub offset: usize,
 }
 
-pub fn column_at(joined: &[u64; 256], offsets: &[u16; 257], c: usize) -> Column
-    requires { (c < 256) × (nth offsets.now c ≡ sizes c (nth joined.now)) }
-    ensures { IsColumn (nth joined.now) c result.joined result.offset × (result.offset < 65536) }
-{
-    Column {
-        joined: joined[c],
-        offset: wide(offsets[c]) as usize,
+impl Network<'_> {
+    pub fn column_at(&self, c: usize) -> Column
+        requires { c < self.now.m }
+        ensures { IsColumn (nth self.now.joined.now) c result.joined result.offset × (result.offset < 65536) }
+    {
+        Column {
+            joined: self.joined[c],
+            offset: usize::from(self.offsets[c]),
+        }
+    }
+
+    // d more from taxon i to taxon j through column c.
+    pub fn hop(&self, ws: &mut [i32], c: usize, i: usize, j: usize, d: u32)
+        requires { CanHop self.now.joined.now self.now.offsets.now ws.old c i j d × (c < self.now.m) }
+        ensures { ((n m : ℕ) → n ≤ 64 → Hopped n m (outs ws.old (nth self.now.joined.now)) (inns ws.old (nth self.now.joined.now))
+            (outs ws.new (nth self.now.joined.now)) (inns ws.new (nth self.now.joined.now)) c i j d)
+            × ((m : ℕ) → c < m → Kept (sizes m (nth self.now.joined.now)) ws.old ws.new) }
+    {
+        let column = self.column_at(c);
+        let a = slot(column, i);
+        let b = slot(column, j);
+        send(ws, a, b, d);
     }
 }
 
@@ -130,25 +140,4 @@ pub fn flow(ws: &[i32], column: Column, i: usize) -> NetFlow
         out: out_of(f),
         inn: inn_of(f),
     }
-}
-
-// d more from taxon i to taxon j through column c.
-pub fn hop(
-    ws: &mut [i32],
-    joined: &[u64; 256],
-    offsets: &[u16; 257],
-    c: usize,
-    i: usize,
-    j: usize,
-    d: u32,
-)
-    requires { CanHop joined.now offsets.now ws.old c i j d }
-    ensures { ((n m : ℕ) → n ≤ 64 → Hopped n m (outs ws.old (nth joined.now)) (inns ws.old (nth joined.now))
-        (outs ws.new (nth joined.now)) (inns ws.new (nth joined.now)) c i j d)
-        × ((m : ℕ) → c < m → Kept (sizes m (nth joined.now)) ws.old ws.new) }
-{
-    let column = column_at(joined, offsets, c);
-    let a = slot(column, i);
-    let b = slot(column, j);
-    send(ws, a, b, d);
 }

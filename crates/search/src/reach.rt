@@ -1,14 +1,15 @@
 // The taxa that hops reach from a set of sources past the flow, by sweeps over the columns. How each was reached goes into a lent tree, four numbers to a taxon: from
 // which taxon, through which column, at which turn, and the least that a hop of the way carries.
 ghost use Rattle.std.specs.Prelude.{◌≡◌, true, false, ◌+◌, ◌-◌, ◌*◌, ◌≤◌, ◌<◌, ◌^◌, min, max, length};
-ghost use Rattle.taxa.specs.Sets.{has, ◌⊆◌, multiplicity_in, Tabled};
-ghost use Rattle.search.specs.inner.Network as network;
+ghost use Rattle.taxa.specs.Sets.{has, ◌⊆◌, multiplicity_in};
 ghost use Rattle.search.specs.Search.{nth};
-ghost use Rattle.search.specs.inner.Network.{Ready};
-ghost use Rattle.search.specs.inner.Reaching.{turn_of, IsGate, Rooted, Leads, Offered, Passed, Crossed, Missed, Swept, Planted, Found};
+ghost use Rattle.search.specs.inner.Network.{arc};
+ghost use Rattle.search.specs.inner.Reaching.{turn_of, Offered, Missed, Planted};
+ghost use Rattle.search.specs.inner.On as on;
 
 use crate::net;
 use crate::net::NetFlow;
+use crate::networks::Network;
 
 // In place of a taxon: none.
 pub const NOBODY: usize = 64;
@@ -16,26 +17,12 @@ pub const NOBODY: usize = 64;
 // More than any hop or flow carries.
 pub const UNBOUNDED: u32 = 4294967295;
 
-fn greatest(x: u32, y: u32) -> u32
-    ensures { result ≡ max x y }
-{
-    if x < y { y } else { x }
-}
-
 // What more can run one way: up to cap, with `back` to turn back and `used` in use.
 fn spare(cap: u32, back: u32, used: u32) -> u32
     requires { (used ≤ cap) × (cap < 2 ^ 23) × (back ≤ cap) }
     ensures { result ≡ cap + back - used }
 {
     cap + back - used
-}
-
-// What the arc between a column of the weight and taxon i carries.
-fn arc(weight: u32, planes: &[u64; 72], i: usize) -> u32
-    requires { (weight < 65536) × (i < 64) × Tabled planes.now }
-    ensures { (result ≡ weight * multiplicity_in planes.now i) × (result < 2 ^ 23) }
-{
-    weight * taxa::multiplicity(planes, i as u32)
 }
 
 // What a taxon finds at a column: the weight, what it can send, and what of that the column lets through whoever takes it: what the taxon can turn back, or
@@ -47,53 +34,9 @@ pub struct Gate {
     pub free: u32,
 }
 
-pub fn gate_at(
-    weights: &[u16],
-    planes: &[u64; 72],
-    limits: &[u32; 320],
-    used: &[u32; 256],
-    c: usize,
-    i: usize,
-    flow: NetFlow,
-) -> Gate
-    requires { (c < 256)
-        × (c < length weights.now)
-        × (nth weights.now c < 65536)
-        × (flow.out ≤ network.arc weights.now planes.now c i)
-        × (flow.inn ≤ network.arc weights.now planes.now c i)
-        × (nth used.now c ≤ nth limits.now c)
-        × (i < 64)
-        × Tabled planes.now }
-    ensures { IsGate weights.now planes.now limits.now used.now c i flow.out flow.inn
-        result.weight result.sends result.free }
-{
-    let weight = net::wide(weights[c]);
-    let most = arc(weight, planes, i);
-    let sends = spare(most, flow.inn, flow.out);
-    Gate {
-        weight: weight,
-        sends: sends,
-        free: greatest(flow.inn, limits[c] - used[c]),
-    }
-}
-
-// What a hop to taxon j carries.
-pub fn carry_to(g: Gate, planes: &[u64; 72], j: usize, flow: NetFlow) -> u32
-    requires { (g.weight < 65536)
-        × (flow.out ≤ g.weight * multiplicity_in planes.now j)
-        × (flow.inn ≤ g.weight * multiplicity_in planes.now j)
-        × (j < 64)
-        × Tabled planes.now }
-    ensures { result ≡ min (min g.sends (g.weight * multiplicity_in planes.now j + flow.out - flow.inn)) (max g.free flow.out) }
-{
-    let most = arc(g.weight, planes, j);
-    let takes = spare(most, flow.out, flow.inn);
-    taxa::least(taxa::least(g.sends, takes), greatest(g.free, flow.out))
-}
-
 // Taxon j is offered a hop from i through c that carries k: it joins, unless that is nothing.
 fn offer(tree: &mut [u32; 256], met: u64, j: usize, i: usize, c: usize, stamp: u32, k: u32) -> u64
-    requires { (j < 64) × (i < 64) × (c < 256) × (length tree.old ≡ 256) }
+    requires { (j < 64) × (i < 64) × (c < 256) }
     ensures { Offered met tree.old result tree.new j i c stamp k }
 {
     if k == 0 {
@@ -106,130 +49,6 @@ fn offer(tree: &mut [u32; 256], met: u64, j: usize, i: usize, c: usize, stamp: u
     taxa::union(met, taxa::single(j as u32))
 }
 
-// Of the taxa of x, which column c joins, one whose hop leads wherever a hop of any of them leads; `NOBODY` if none leads anywhere. A taxon that sends is such
-// a one if it turns flow back or the column has room; where none of those does, any that sends.
-fn sender(
-    weights: &[u16],
-    planes: &[u64; 72],
-    joined: &[u64; 256],
-    limits: &[u32; 320],
-    offsets: &[u16; 257],
-    n: usize,
-    m: usize,
-    ws: &[i32],
-    used: &[u32; 256],
-    c: usize,
-    x: u64,
-) -> usize
-    requires { Ready weights.now planes.now joined.now limits.now offsets.now n m ws.now used.now × (c < m) × (x ⊆ nth joined.now c) }
-    ensures { Leads weights.now planes.now joined.now limits.now n ws.now c x result }
-{
-    let column = net::column_at(joined, offsets, c);
-    let mut found = NOBODY;
-    let mut left = x;
-    while 0 < left {
-        let i = taxa::lowest(left) as usize;
-        let flow = net::flow(ws, column, i);
-        let g = gate_at(weights, planes, limits, used, c, i, flow);
-        if 0 < g.sends {
-            if 0 < g.free {
-                return i;
-            }
-            found = i;
-        }
-        left = taxa::rest(left);
-    }
-    found
-}
-
-// The taxa that a hop from i through column c reaches join.
-fn through(
-    weights: &[u16],
-    planes: &[u64; 72],
-    joined: &[u64; 256],
-    limits: &[u32; 320],
-    offsets: &[u16; 257],
-    n: usize,
-    m: usize,
-    ws: &[i32],
-    used: &[u32; 256],
-    tree: &mut [u32; 256],
-    sources: u64,
-    met: u64,
-    i: usize,
-    c: usize,
-) -> u64
-    requires { Ready weights.now planes.now joined.now limits.now offsets.now n m ws.now used.now
-        × Rooted weights.now planes.now joined.now limits.now n m ws.now sources met tree.old
-        × (c < m)
-        × (has (nth joined.now c) i ≡ true)
-        × (has met i ≡ true) }
-    ensures { Passed weights.now planes.now joined.now limits.now n m ws.now sources met result tree.new i c (turn_of tree.old i + 1) 0 }
-{
-    let column = net::column_at(joined, offsets, c);
-    let gate = gate_at(
-        weights,
-        planes,
-        limits,
-        used,
-        c,
-        i,
-        net::flow(ws, column, i),
-    );
-    // No hop carries more than the way to i.
-    let g = Gate {
-        weight: gate.weight,
-        sends: taxa::least(gate.sends, tree[4 * i + 3]),
-        free: gate.free,
-    };
-    let stamp = tree[4 * i + 2] + 1;
-    let mut all = met;
-    let mut left = taxa::difference(joined[c], met);
-    while 0 < left {
-        let j = taxa::lowest(left) as usize;
-        let k = carry_to(g, planes, j, net::flow(ws, column, j));
-        all = offer(tree, all, j, i, c, stamp, k);
-        left = taxa::rest(left);
-    }
-    all
-}
-
-// The taxa that a hop from a taxon met through column c reaches join.
-fn pass(
-    weights: &[u16],
-    planes: &[u64; 72],
-    joined: &[u64; 256],
-    limits: &[u32; 320],
-    offsets: &[u16; 257],
-    n: usize,
-    m: usize,
-    ws: &[i32],
-    used: &[u32; 256],
-    tree: &mut [u32; 256],
-    sources: u64,
-    met: u64,
-    c: usize,
-) -> u64
-    requires { Ready weights.now planes.now joined.now limits.now offsets.now n m ws.now used.now
-        × Rooted weights.now planes.now joined.now limits.now n m ws.now sources met tree.old
-        × (c < m) }
-    ensures { Crossed weights.now planes.now joined.now limits.now n m ws.now sources met result tree.new c }
-{
-    if taxa::subset(joined[c], met) {
-        return met;
-    }
-    let here = taxa::common(joined[c], met);
-    let i = sender(
-        weights, planes, joined, limits, offsets, n, m, ws, used, c, here,
-    );
-    if i == NOBODY {
-        return met;
-    }
-    through(
-        weights, planes, joined, limits, offsets, n, m, ws, used, tree, sources, met, i, c,
-    )
-}
-
 // Whether a taxon of the goal is in a.
 fn hits(goal: u64, a: u64) -> bool
     ensures { (result ≡ false → Missed goal a) × (result ≡ true → Missed goal a → ⊥) }
@@ -237,42 +56,8 @@ fn hits(goal: u64, a: u64) -> bool
     0 < taxa::common(goal, a)
 }
 
-// One sweep over the columns from the first that is asked for, until a taxon of the goal is reached.
-fn sweep(
-    weights: &[u16],
-    planes: &[u64; 72],
-    joined: &[u64; 256],
-    limits: &[u32; 320],
-    offsets: &[u16; 257],
-    n: usize,
-    m: usize,
-    ws: &[i32],
-    used: &[u32; 256],
-    tree: &mut [u32; 256],
-    sources: u64,
-    met: u64,
-    goal: u64,
-    first: usize,
-) -> u64
-    requires { Ready weights.now planes.now joined.now limits.now offsets.now n m ws.now used.now
-        × Rooted weights.now planes.now joined.now limits.now n m ws.now sources met tree.old }
-    ensures { Swept weights.now planes.now joined.now limits.now n m ws.now sources met result tree.new goal first }
-{
-    let mut all = met;
-    for c in first..m {
-        if hits(goal, all) {
-            return all;
-        }
-        all = pass(
-            weights, planes, joined, limits, offsets, n, m, ws, used, tree, sources, all, c,
-        );
-    }
-    all
-}
-
 // The tree of the sources alone, which have turn 0.
 fn plant(tree: &mut [u32; 256], sources: u64)
-    requires { length tree.old ≡ 256 }
     ensures { Planted tree.new sources 0 }
 {
     let mut left = sources;
@@ -284,39 +69,180 @@ fn plant(tree: &mut [u32; 256], sources: u64)
     }
 }
 
-// The taxa that hops reach from the sources; some of them only, once a taxon of the goal is among them. The first sweep may start at any column, as whole ones
-// follow it: the goal is met soonest where the last path to it came through.
-pub fn reach(
-    weights: &[u16],
-    planes: &[u64; 72],
-    joined: &[u64; 256],
-    limits: &[u32; 320],
-    offsets: &[u16; 257],
-    n: usize,
-    m: usize,
-    ws: &[i32],
-    used: &[u32; 256],
-    tree: &mut [u32; 256],
-    sources: u64,
-    goal: u64,
-    first: usize,
-) -> u64
-    requires { Ready weights.now planes.now joined.now limits.now offsets.now n m ws.now used.now × (length tree.old ≡ 256) × (sources < 2 ^ n) }
-    ensures { Found weights.now planes.now joined.now limits.now n m ws.now sources result tree.new goal
-        × (length tree.new ≡ 256) }
-{
-    plant(tree, sources);
-    // What the last whole sweep started from: nobody, as none was made yet.
-    let mut met: u64 = 0;
-    let mut next = sweep(
-        weights, planes, joined, limits, offsets, n, m, ws, used, tree, sources, sources, goal,
-        first,
-    );
-    while met < next {
-        met = next;
-        next = sweep(
-            weights, planes, joined, limits, offsets, n, m, ws, used, tree, sources, met, goal, 0,
-        );
+impl Network<'_> {
+    // What the arc between a column of the weight and taxon i carries.
+    fn arc(&self, weight: u32, i: usize) -> u32
+        requires { (weight < 65536) × (i < 64) }
+        ensures { (result ≡ weight * multiplicity_in self.now.planes.now i) × (result < 2 ^ 23) }
+    {
+        weight * taxa::multiplicity(self.planes, i as u32)
     }
-    met
+
+    // What taxon i finds at column c.
+    pub fn gate_at(&self, used: &[u32; 256], c: usize, i: usize, flow: NetFlow) -> Gate
+        requires { (c < self.now.m)
+            × (flow.out ≤ arc self.now.weights.now self.now.planes.now c i)
+            × (flow.inn ≤ arc self.now.weights.now self.now.planes.now c i)
+            × (nth used.now c ≤ nth self.now.limits.now c)
+            × (i < 64) }
+        ensures { on.IsGate self.now used.now c i flow.out flow.inn result.weight result.sends result.free }
+    {
+        let weight = u32::from(self.weights[c]);
+        let most = self.arc(weight, i);
+        let sends = spare(most, flow.inn, flow.out);
+        Gate {
+            weight,
+            sends,
+            free: flow.inn.max(self.limits[c] - used[c]),
+        }
+    }
+
+    // What a hop to taxon j carries.
+    pub fn carry_to(&self, g: Gate, j: usize, flow: NetFlow) -> u32
+        requires { (g.weight < 65536)
+            × (flow.out ≤ g.weight * multiplicity_in self.now.planes.now j)
+            × (flow.inn ≤ g.weight * multiplicity_in self.now.planes.now j)
+            × (j < 64) }
+        ensures { result ≡ min (min g.sends (g.weight * multiplicity_in self.now.planes.now j + flow.out - flow.inn)) (max g.free flow.out) }
+    {
+        let most = self.arc(g.weight, j);
+        let takes = spare(most, flow.out, flow.inn);
+        g.sends.min(takes).min(g.free.max(flow.out))
+    }
+
+    // Of the taxa of x, which column c joins, one whose hop leads wherever a hop of any of them leads; `NOBODY` if none leads anywhere. A taxon that sends is such
+    // a one if it turns flow back or the column has room; where none of those does, any that sends.
+    fn sender(&self, ws: &[i32], used: &[u32; 256], c: usize, x: u64) -> usize
+        requires { on.Ready self.now ws.now used.now × (c < self.now.m) × (x ⊆ nth self.now.joined.now c) }
+        ensures { on.Leads self.now ws.now c x result }
+    {
+        let column = self.column_at(c);
+        let mut found = NOBODY;
+        let mut left = x;
+        while 0 < left {
+            let i = taxa::lowest(left) as usize;
+            let flow = net::flow(ws, column, i);
+            let g = self.gate_at(used, c, i, flow);
+            if 0 < g.sends {
+                if 0 < g.free {
+                    return i;
+                }
+                found = i;
+            }
+            left = taxa::rest(left);
+        }
+        found
+    }
+
+    // The taxa that a hop from i through column c reaches join.
+    #[tactic(auto, using(crate::proofs::Reaching::joins_low))]
+    fn through(
+        &self,
+        ws: &[i32],
+        used: &[u32; 256],
+        tree: &mut [u32; 256],
+        sources: u64,
+        met: u64,
+        i: usize,
+        c: usize,
+    ) -> u64
+        requires { on.Ready self.now ws.now used.now
+            × on.Rooted self.now ws.now sources met tree.old
+            × (c < self.now.m)
+            × (has (nth self.now.joined.now c) i ≡ true)
+            × (has met i ≡ true) }
+        ensures { on.Passed self.now ws.now sources met result tree.new i c (turn_of tree.old i + 1) 0 }
+    {
+        let column = self.column_at(c);
+        let gate = self.gate_at(used, c, i, net::flow(ws, column, i));
+        // No hop carries more than the way to i.
+        let g = Gate {
+            weight: gate.weight,
+            sends: gate.sends.min(tree[4 * i + 3]),
+            free: gate.free,
+        };
+        let stamp = tree[4 * i + 2] + 1;
+        let mut all = met;
+        let mut left = taxa::difference(self.joined[c], met);
+        while 0 < left {
+            let j = taxa::lowest(left) as usize;
+            let k = self.carry_to(g, j, net::flow(ws, column, j));
+            all = offer(tree, all, j, i, c, stamp, k);
+            left = taxa::rest(left);
+        }
+        all
+    }
+
+    // The taxa that a hop from a taxon met through column c reaches join.
+    fn pass(
+        &self,
+        ws: &[i32],
+        used: &[u32; 256],
+        tree: &mut [u32; 256],
+        sources: u64,
+        met: u64,
+        c: usize,
+    ) -> u64
+        requires { on.Ready self.now ws.now used.now × on.Rooted self.now ws.now sources met tree.old × (c < self.now.m) }
+        ensures { on.Crossed self.now ws.now sources met result tree.new c }
+    {
+        if taxa::subset(self.joined[c], met) {
+            return met;
+        }
+        let here = taxa::common(self.joined[c], met);
+        let i = self.sender(ws, used, c, here);
+        if i == NOBODY {
+            return met;
+        }
+        self.through(ws, used, tree, sources, met, i, c)
+    }
+
+    // One sweep over the columns from the first that is asked for, until a taxon of the goal is reached.
+    fn sweep(
+        &self,
+        ws: &[i32],
+        used: &[u32; 256],
+        tree: &mut [u32; 256],
+        sources: u64,
+        met: u64,
+        goal: u64,
+        first: usize,
+    ) -> u64
+        requires { on.Ready self.now ws.now used.now × on.Rooted self.now ws.now sources met tree.old }
+        ensures { on.Swept self.now ws.now sources met result tree.new goal first }
+    {
+        let mut all = met;
+        for c in first..self.m {
+            if hits(goal, all) {
+                return all;
+            }
+            all = self.pass(ws, used, tree, sources, all, c);
+        }
+        all
+    }
+
+    // The taxa that hops reach from the sources; some of them only, once a taxon of the goal is among them. The first sweep may start at any column, as whole ones
+    // follow it: the goal is met soonest where the last path to it came through.
+    pub fn reach(
+        &self,
+        ws: &[i32],
+        used: &[u32; 256],
+        tree: &mut [u32; 256],
+        sources: u64,
+        goal: u64,
+        first: usize,
+    ) -> u64
+        requires { on.Ready self.now ws.now used.now × (sources < 2 ^ self.now.n) }
+        ensures { on.Found self.now ws.now sources result tree.new goal }
+    {
+        plant(tree, sources);
+        // What the last whole sweep started from: nobody, as none was made yet.
+        let mut met: u64 = 0;
+        let mut next = self.sweep(ws, used, tree, sources, sources, goal, first);
+        while met < next {
+            met = next;
+            next = self.sweep(ws, used, tree, sources, met, goal, 0);
+        }
+        met
+    }
 }

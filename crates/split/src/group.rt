@@ -2,13 +2,13 @@
 ghost use Rattle.std.specs.Prelude.{◌≡◌, ◌≤◌, length};
 ghost use Rattle.taxa.specs.Sets.{multiplicity_in, count};
 ghost use Rattle.method.specs.Flow.{arc_count};
-ghost use Rattle.search.specs.Search.{cols_of, Given, Lent};
+ghost use Rattle.search.specs.Search.{cols_of, Given};
 ghost use Rattle.search.specs.Workspace.{cleared};
 ghost use Rattle.split.specs.inner.Handing.{Parallel, HandsOn};
 ghost use Rattle.split.specs.Groups.{IsSplit};
 
 use crate::{columns, parts};
-use search::Split;
+use search::{Lists, Split};
 
 // The division that document 01 takes. The search's flow is cleared away.
 pub fn divide(
@@ -20,23 +20,15 @@ pub fn divide(
     n: usize,
     m: usize,
     workspace: &mut [i32],
-    joined: &mut [u64; 256],
-    limits: &mut [u32; 320],
-    offsets: &mut [u16; 257],
-    used: &mut [u32; 256],
-    tree: &mut [u32; 256],
+    lists: &mut Lists,
 ) -> Split
     requires { Given weights.now planes.now ones.now zeros.now group n m
-        × (arc_count m (cols_of weights.now ones.now zeros.now) group ≤ length workspace.old)
-        × Lent joined.old limits.old offsets.old used.old tree.old }
+        × (arc_count m (cols_of weights.now ones.now zeros.now) group ≤ length workspace.old) }
     ensures { IsSplit (multiplicity_in planes.now) m (cols_of weights.now ones.now zeros.now) group result.cost result.side result.other
-        × (workspace.new ≡ cleared (arc_count m (cols_of weights.now ones.now zeros.now) group) workspace.old)
-        × Lent joined.new limits.new offsets.new used.new tree.new }
+        × (workspace.new ≡ cleared (arc_count m (cols_of weights.now ones.now zeros.now) group) workspace.old) }
 {
-    let found = search::divide(
-        weights, planes, ones, zeros, group, n, m, workspace, joined, limits, offsets, used, tree,
-    );
-    search::net::clear_places(workspace, offsets, m);
+    let found = search::divide(weights, planes, ones, zeros, group, n, m, workspace, lists);
+    search::net::clear_places(workspace, &lists.offsets, m);
     found
 }
 
@@ -57,37 +49,18 @@ pub fn split_group(
     n: usize,
     workspace: &mut [i32],
     list: &mut [u64],
-    joined: &mut [u64; 256],
-    limits: &mut [u32; 320],
-    offsets: &mut [u16; 257],
-    used: &mut [u32; 256],
-    tree: &mut [u32; 256],
+    lists: &mut Lists,
 ) -> Handed
     requires { Given weights.now planes.now ones.old zeros.old group n (length weights.now)
         × Parallel weights.now ones.old zeros.old
         × (arc_count (length weights.now) (cols_of weights.now ones.old zeros.old) group ≤ length workspace.old)
-        × (count 64 group ≤ length list.old)
-        × Lent joined.old limits.old offsets.old used.old tree.old }
+        × (count 64 group ≤ length list.old) }
     ensures { HandsOn weights.now planes.now ones.old zeros.old ones.new zeros.new group
         list.old list.new result.cost result.number
-        × (workspace.new ≡ cleared (arc_count (length weights.now) (cols_of weights.now ones.old zeros.old) group) workspace.old)
-        × Lent joined.new limits.new offsets.new used.new tree.new }
+        × (workspace.new ≡ cleared (arc_count (length weights.now) (cols_of weights.now ones.old zeros.old) group) workspace.old) }
 {
-    let found = divide(
-        weights,
-        planes,
-        ones,
-        zeros,
-        group,
-        n,
-        weights.len(),
-        workspace,
-        joined,
-        limits,
-        offsets,
-        used,
-        tree,
-    );
+    let m = weights.len();
+    let found = divide(weights, planes, ones, zeros, group, n, m, workspace, lists);
     columns::flip_columns(weights, planes, ones, zeros, group, found.side);
     let number = parts::parts(ones, zeros, group, list);
     Handed {

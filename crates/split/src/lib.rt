@@ -17,7 +17,7 @@ ghost use Rattle.split.specs.Operation.{split_of, answered, workspace_after, Spl
 
 use matrix::Shape;
 use record::refusal::{Reason, Refusal};
-use search::Split;
+use search::{Lists, Split};
 
 // The split of a group that nothing refuses; the three slices are room for the file's columns. The numbers that document 02's C-13 lends are cleared first,
 // and the search of the group uses no others.
@@ -41,25 +41,9 @@ fn split_loaded(
     columns::load(file, weights, ones, zeros);
     let planes = matrix::planes_in(file);
     search::net::clear(workspace, needed);
-    let mut joined = [0u64; 256];
-    let mut limits = [0u32; 320];
-    let mut offsets = [0u16; 257];
-    let mut used = [0u32; 256];
-    let mut tree = [0u32; 256];
+    let mut lists = Lists::new();
     group::divide(
-        weights,
-        &planes,
-        ones,
-        zeros,
-        group,
-        n,
-        m,
-        workspace,
-        &mut joined,
-        &mut limits,
-        &mut offsets,
-        &mut used,
-        &mut tree,
+        weights, &planes, ones, zeros, group, n, m, workspace, &mut lists,
     )
 }
 

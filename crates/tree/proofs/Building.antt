@@ -32,7 +32,7 @@ use Rattle.split.specs.Columns.{matrix_in}
 use Rattle.split.proofs.Soundness.{taken_count, taken_known, few_taxa, few_columns, can_load, taken_sound}
 use Rattle.tree.specs.Lists.{first_groups}
 use Rattle.tree.specs.inner.Lists.{Room, unweighed}
-use Rattle.tree.specs.inner.Grow.{entries_for, InFront, LentLists, arcs_in, Ready, Grown, walk_from, Walked, tree_of, Growable, Grew, Answers}
+use Rattle.tree.specs.inner.Grow.{entries_for, InFront, arcs_in, Ready, Grown, walk_from, Walked, tree_of, Growable, Grew, Answers}
 use Rattle.tree.specs.Build as specs
 use Rattle.tree.specs.Build.{tree_with, with_flips, tree_for, content_for, tree_room, room_for}
 use Rattle.tree.proofs.Rules.{answer_lawful, answer_fits, flips_few, answer_of_tree, tree_lawful, tree_fits}
@@ -116,6 +116,9 @@ module _ {file : List ℕ} {n m space : ℕ} (f : File file) (b : Growable file 
         → needed ≡ one_entries M → clear ≡ cleared needed before → length before ≡ space → Ready lent P (entries_for lent os) (entries_for lent zs) (all n) n clear
     lent_ready u t before k c l = rw p.sized (grow_ready before p.parallel p.columns u t p.sized k c l)
 
+    pub lent_fits : length (walk_from lent P (entries_for lent os) (entries_for lent zs) (all n)).groups ≤ 63
+    lent_fits = rw p.sized (few_groups (multiplicity_in P) (cols_of lent (take m os) (take m zs)))
+
     pub lent_room : {ts cs : List ℕ} → length ts ≡ 63 → length cs ≡ 63
         → Room (length (walk_from lent P (entries_for lent os) (entries_for lent zs) (all n)).groups) ts cs
     lent_room t c = grow_room lent P _ _ p.sized t c
@@ -145,20 +148,20 @@ module _ {file : List ℕ} {n m space : ℕ} (f : File file) (b : Growable file 
     unfolding tree_for
     tree_is = rw (groups_are, taken_count f b.taken, taken_known f b.taken)
 
-    pub to_order : LentLists os' zs' ts' cs' → Walked n ts' cs' k
+    pub to_order : Walked n ts' cs' k
     unfolding answer
-    to_order h =
+    to_order =
         let few = rw (same, start, sized) at g.many in
         record {
-          listed = let l = few_groups file_multiplicities file_columns_lem in record { taxa_room = omega (arith, h.walked); costs_room = omega (arith, h.paid) };
+          listed = omega (arith, few_groups file_multiplicities file_columns_lem);
           few = rw groups_are (omega (arith, promises.groups_few M ok, few_taxa f b.taken, taken_known f b.taken));
           small = rw groups_are (omega (arith, promises.total_small M ok));
         }
 
     -- So the tree has grown.
-    pub has_grown : {a : Answer} → LentLists os' zs' ts' cs' → (tree_of a ≡ tree_with n m (ordered 64 n (first_groups ts' cs' k))) × (a.flips ≡ 0)
+    pub has_grown : {a : Answer} → length os' ≡ 256 → length zs' ≡ 256 → (tree_of a ≡ tree_with n m (ordered 64 n (first_groups ts' cs' k))) × (a.flips ≡ 0)
         → Grew file a os' zs'
-    has_grown {a} h (e, none) =
+    has_grown {a} ones zeros (e, none) =
         let many : a.m ≡ m = ap (λ (c : Content). c.m) e in
         record {
           tree = e ∙ tree_is;
@@ -168,8 +171,8 @@ module _ {file : List ℕ} {n m space : ℕ} (f : File file) (b : Growable file 
             columns = many ∙ sym (taken_count f b.taken);
             few_columns = omega (arith, few_columns f b.taken);
             whole = rw many (can_load f b.taken refl).1;
-            ones = h.ones;
-            zeros = h.zeros;
+            ones = ones;
+            zeros = zeros;
           };
         }
 

@@ -67,12 +67,16 @@ module _ {ws P os zs os' zs' : List ℕ} {S n : ℕ} {space : List ℤ} {list li
   })
 
   -- there is room for them,
+  pub parts_fit : (at : ℕ) {next room : ℕ} (Ps : List ℕ) → Ps ≡ split_parts 64 μ (length ws) cols S → next ≡ at + 1
+      → at + length (build 64 μ (length ws) cols S).groups ≤ room → next + length (walked (build 64 μ (length ws)) (cols_of ws os' zs') Ps).groups ≤ room
+  parts_fit at Ps e one enough =
+      let n = node_length μ (length ws) cols (ready_wide r) two in
+      rw (e, h.columns) (omega arith)
+
   pub parts_room : (at : ℕ) {next : ℕ} {walked-taxa paid walked' paid' : List ℕ} (Ps : List ℕ) → Ps ≡ split_parts 64 μ (length ws) cols S → next ≡ at + 1
       → Room (at + length (build 64 μ (length ws) cols S).groups) walked-taxa paid → length walked' ≡ length walked-taxa → length paid' ≡ length paid
       → Room (next + length (walked (build 64 μ (length ws)) (cols_of ws os' zs') Ps).groups) walked' paid'
-  parts_room at Ps e one room t c =
-      let n = node_length μ (length ws) cols (ready_wide r) two in
-      rw (e, h.columns) (record { taxa_room = omega (arith, room.taxa_room); costs_room = omega (arith, room.costs_room) })
+  parts_room at Ps e one room t c = record { taxa_room = omega (arith, parts_fit at Ps e one room.taxa_room); costs_room = omega (arith, parts_fit at Ps e one room.costs_room) }
 
   -- and with what the walk over them comes to the group is whole.
   pub grown_group : {os'' zs'' : List ℕ} {space' space'' : List ℤ} {before mid new : List Group} {at next end : ℕ} (Ps : List ℕ) → Ps ≡ split_parts 64 μ (length ws) cols S
@@ -82,8 +86,11 @@ module _ {ws P os zs os' zs' : List ℕ} {S n : ℕ} {space : List ℤ} {list li
   grown_group Ps e one same groups w = whole_group μ cols (cols_of ws os' zs') Ps (ready_wide r) two h.columns e (rw (groups, same, one, h.is_cost) at w)
 
 -- Room for a group and all below it is room for the group.
+pub first_fits : (at : ℕ) {ws P os zs : List ℕ} {S n room : ℕ} {space : List ℤ} → Ready ws P os zs S n space → 1 < count 64 S
+    → at + length (build 64 (multiplicity_in P) (length ws) (cols_of ws os zs) S).groups ≤ room → at < room
+first_fits at {ws} {P} {os} {zs} r two enough = omega (arith, node_length (multiplicity_in P) (length ws) (cols_of ws os zs) (ready_wide r) two)
+
 pub first_room : (at : ℕ) {ws P os zs : List ℕ} {S n : ℕ} {space : List ℤ} {taxa costs : List ℕ} → Ready ws P os zs S n space → 1 < count 64 S
     → Room (at + length (build 64 (multiplicity_in P) (length ws) (cols_of ws os zs) S).groups) taxa costs → Room (at + 1) taxa costs
 first_room at {ws} {P} {os} {zs} r two room =
-    let n = node_length (multiplicity_in P) (length ws) (cols_of ws os zs) (ready_wide r) two in
-    record { taxa_room = omega (arith, room.taxa_room); costs_room = omega (arith, room.costs_room) }
+    record { taxa_room = omega (arith, first_fits at {ws = ws} {P = P} {os = os} {zs = zs} r two room.taxa_room); costs_room = omega (arith, first_fits at {ws = ws} {P = P} {os = os} {zs = zs} r two room.costs_room) }

@@ -5,17 +5,17 @@ ghost use Rattle.search.specs.Workspace.{cleared};
 ghost use Rattle.split.specs.Columns.{matrix_in};
 ghost use Rattle.taxa.specs.Sets.{all};
 ghost use Rattle.method.specs.Tree.{column, one_entries, ordered};
-ghost use Rattle.tree.specs.Lists.{first_groups};
+ghost use Rattle.tree.specs.Lists.{listed};
 ghost use Rattle.tree.specs.Build.{tree_with};
-ghost use Rattle.tree.specs.inner.Lists.{Room};
-ghost use Rattle.tree.specs.inner.Grow.{entries_for, InFront, LentLists, Ready, Grown, walk_from, Walked, tree_of, Growable, Grew};
+ghost use Rattle.tree.specs.inner.Grow.{entries_for, InFront, Ready, Grown, walk_from, Walked, tree_of, Growable, Grew};
 
-use super::{grow, order};
+use super::grow;
+use super::order::Groups;
 use answer::Answer;
-use search::net;
+use search::{Lists, net};
 use split::columns;
 
-// The walk from all taxa. The lists of the search and of the parts stand only while the tree grows. Returns how many groups there are.
+// The walk from all taxa. The lists of the search and of the parts stand only while the tree grows.
 fn grow_all(
     weights: &[u16],
     planes: &[u64; 72],
@@ -23,26 +23,18 @@ fn grow_all(
     zeros: &mut [u64; 256],
     n: usize,
     workspace: &mut [i32],
-    walked: &mut [u64; 63],
-    paid: &mut [u32; 63],
-) -> usize
-    requires ready { Ready weights.now planes.now (entries_for weights.now ones.old) (entries_for weights.now zeros.old) (all n) n workspace.old
-        × LentLists ones.old zeros.old walked.old paid.old }
-    requires room { Room (length (walk_from weights.now planes.now (entries_for weights.now ones.old) (entries_for weights.now zeros.old) (all n)).groups)
-        walked.old paid.old }
+    groups: &mut Groups,
+)
+    requires ready { Ready weights.now planes.now (entries_for weights.now ones.old) (entries_for weights.now zeros.old) (all n) n workspace.old }
+    requires room { groups.old.count + length (walk_from weights.now planes.now (entries_for weights.now ones.old) (entries_for weights.now zeros.old) (all n)).groups ≤ 63 }
     ensures { Grown weights.now (entries_for weights.now ones.new) (entries_for weights.now zeros.new)
         workspace.old workspace.new
         (walk_from weights.now planes.now (entries_for weights.now ones.old)
         (entries_for weights.now zeros.old) (all n))
-        (first_groups walked.old paid.old 0) (first_groups walked.new paid.new result) 0 result
-        × LentLists ones.new zeros.new walked.new paid.new }
+        (listed groups.old) (listed groups.new) groups.old.count groups.new.count }
 {
     let mut list = [0u64; 128];
-    let mut joined = [0u64; 256];
-    let mut limits = [0u32; 320];
-    let mut offsets = [0u16; 257];
-    let mut used = [0u32; 256];
-    let mut tree = [0u32; 256];
+    let mut lists = Lists::new();
     grow::grow(
         weights,
         planes,
@@ -52,15 +44,9 @@ fn grow_all(
         n,
         taxa::all(n as u32),
         &mut list,
-        walked,
-        paid,
-        &mut joined,
-        &mut limits,
-        &mut offsets,
-        &mut used,
-        &mut tree,
-        0,
-    )
+        &mut lists,
+        groups,
+    );
 }
 
 // The columns of a file that the check takes, put in front in lists that may be longer.
@@ -73,22 +59,19 @@ fn load_columns(file: &[u8], m: usize, weights: &mut [u16], ones: &mut [u64], ze
 }
 
 // A walk's groups in file order, with their costs and the total, as what an answer holds that has no flips.
-fn in_file_order(n: u16, m: u16, walked: &[u64], paid: &[u32], k: usize) -> Answer
-    requires { Walked n walked.now paid.now k }
-    ensures { (tree_of result ≡ tree_with n m (ordered 64 n (first_groups walked.now paid.now k))) × (result.flips ≡ 0) }
+fn in_file_order(n: u16, m: u16, walked: &Groups) -> Answer
+    requires { Walked n walked.now.taxa walked.now.costs walked.now.count }
+    ensures { (tree_of result ≡ tree_with n m (ordered 64 n (listed walked.now))) × (result.flips ≡ 0) }
 {
-    let mut taxa = [0u64; 63];
-    let mut costs = [0u32; 63];
-    let groups = order::in_order(walked, paid, k, n as u32, &mut taxa, &mut costs);
-    let total = order::sum_costs(&costs, groups);
+    let rising = walked.in_order(u32::from(n));
     Answer {
         n,
         m,
-        groups: groups as u16,
+        groups: rising.count as u16,
         flips: 0,
-        total,
-        taxa,
-        costs,
+        total: rising.total(),
+        taxa: rising.taxa,
+        costs: rising.costs,
     }
 }
 
@@ -112,9 +95,8 @@ pub fn grow_tree(
     let mut weights = [0u16; 256];
     load_columns(file, columns, &mut weights, ones, zeros);
     net::clear(workspace, needed);
-    let mut walked = [0u64; 63];
-    let mut paid = [0u32; 63];
-    let k = grow_all(
+    let mut walked = Groups::new();
+    grow_all(
         &weights[..columns],
         &planes,
         ones,
@@ -122,7 +104,6 @@ pub fn grow_tree(
         n as usize,
         workspace,
         &mut walked,
-        &mut paid,
     );
-    in_file_order(n, m, &walked, &paid, k)
+    in_file_order(n, m, &walked)
 }

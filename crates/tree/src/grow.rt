@@ -3,14 +3,14 @@
 // arrays, which take less of each level's stack than slices do.
 ghost use Rattle.std.specs.Prelude.{◌≡◌, ◌+◌, ◌-◌, ◌*◌, ◌≤◌, ◌<◌, length, take};
 ghost use Rattle.taxa.specs.Sets.{count};
-ghost use Rattle.search.specs.Search.{Lent, Given};
+ghost use Rattle.search.specs.Search.{Given};
 ghost use Rattle.search.specs.Workspace.{cleared};
 ghost use Rattle.split.specs.inner.Handing.{Parallel, HandsOn};
-ghost use Rattle.tree.specs.Lists.{first_groups};
-ghost use Rattle.tree.specs.inner.Lists.{Room};
-ghost use Rattle.tree.specs.inner.Grow.{entries_for, LentLists, Loaded, arcs_in, Ready, TurnsClear, Grown, AllSmall, walk_from, walk_over};
+ghost use Rattle.tree.specs.Lists.{listed};
+ghost use Rattle.tree.specs.inner.Grow.{entries_for, Loaded, arcs_in, Ready, TurnsClear, Grown, AllSmall, walk_from, walk_over};
 
-use super::order::put_group;
+use super::order::Groups;
+use search::Lists;
 use split::group::{Handed, split_group};
 
 // The split of a group, on columns in the first entries of longer lists.
@@ -23,17 +23,12 @@ fn split_first(
     n: usize,
     ws: &mut [i32],
     list: &mut [u64],
-    joined: &mut [u64; 256],
-    limits: &mut [u32; 320],
-    offsets: &mut [u16; 257],
-    used: &mut [u32; 256],
-    tree: &mut [u32; 256],
+    lists: &mut Lists,
 ) -> Handed
     requires { Given weights.now planes.now (entries_for weights.now ones.old) (entries_for weights.now zeros.old) group n (length weights.now)
         × Parallel weights.now (entries_for weights.now ones.old) (entries_for weights.now zeros.old)
         × (arcs_in weights.now (entries_for weights.now ones.old) (entries_for weights.now zeros.old) group ≤ length ws.old)
         × (count 64 group ≤ length list.old)
-        × Lent joined.old limits.old offsets.old used.old tree.old
         × (length weights.now ≤ length ones.old)
         × (length weights.now ≤ length zeros.old) }
     ensures { HandsOn weights.now planes.now (entries_for weights.now ones.old) (entries_for weights.now zeros.old)
@@ -41,8 +36,7 @@ fn split_first(
         list.old list.new result.cost result.number
         × (ws.new
         ≡ cleared (arcs_in weights.now (entries_for weights.now ones.old) (entries_for weights.now zeros.old) group)
-        ws.old)
-        × Lent joined.new limits.new offsets.new used.new tree.new }
+        ws.old) }
 {
     let m = weights.len();
     split_group(
@@ -54,15 +48,11 @@ fn split_first(
         n,
         ws,
         list,
-        joined,
-        limits,
-        offsets,
-        used,
-        tree,
+        lists,
     )
 }
 
-// The group and all below it, after those that stand before `at`. Returns how many there are then.
+// The group and all below it, after those that are found.
 #[cycle(grow_walk)]
 pub fn grow(
     weights: &[u16],
@@ -73,36 +63,23 @@ pub fn grow(
     n: usize,
     group: u64,
     list: &mut [u64],
-    walked: &mut [u64; 63],
-    paid: &mut [u32; 63],
-    joined: &mut [u64; 256],
-    limits: &mut [u32; 320],
-    offsets: &mut [u16; 257],
-    used: &mut [u32; 256],
-    tree: &mut [u32; 256],
-    at: usize,
-) -> usize
+    lists: &mut Lists,
+    groups: &mut Groups,
+)
     requires ready { Ready weights.now planes.now (entries_for weights.now ones.old) (entries_for weights.now zeros.old) group n ws.old
-        × (2 * count 64 group ≤ length list.old)
-        × LentLists ones.old zeros.old walked.old paid.old
-        × Lent joined.old limits.old offsets.old used.old tree.old }
-    requires room { Room (at + length (walk_from weights.now planes.now (entries_for weights.now ones.old) (entries_for weights.now zeros.old) group).groups)
-        walked.old paid.old }
+        × (2 * count 64 group ≤ length list.old) }
+    requires room { groups.old.count + length (walk_from weights.now planes.now (entries_for weights.now ones.old) (entries_for weights.now zeros.old) group).groups ≤ 63 }
     ensures { Grown weights.now (entries_for weights.now ones.new) (entries_for weights.now zeros.new)
         ws.old ws.new
         (walk_from weights.now planes.now (entries_for weights.now ones.old) (entries_for weights.now zeros.old) group)
-        (first_groups walked.old paid.old at) (first_groups walked.new paid.new result) at result
-        × LentLists ones.new zeros.new walked.new paid.new
-        × Lent joined.new limits.new offsets.new used.new tree.new }
+        (listed groups.old) (listed groups.new) groups.old.count groups.new.count }
 {
     let size = taxa::size(group);
     if size < 2 {
-        return at;
+        return;
     }
-    let handed = split_first(
-        weights, planes, ones, zeros, group, n, ws, list, joined, limits, offsets, used, tree,
-    );
-    let next = put_group(true, walked, paid, at, group, handed.cost);
+    let handed = split_first(weights, planes, ones, zeros, group, n, ws, list, lists);
+    groups.put(group, handed.cost);
     walk(
         weights,
         planes,
@@ -113,14 +90,8 @@ pub fn grow(
         list,
         handed.number,
         size,
-        walked,
-        paid,
-        joined,
-        limits,
-        offsets,
-        used,
-        tree,
-        next,
+        lists,
+        groups,
     )
 }
 
@@ -136,37 +107,25 @@ fn walk(
     list: &mut [u64],
     k: usize,
     bound: u32,
-    walked: &mut [u64; 63],
-    paid: &mut [u32; 63],
-    joined: &mut [u64; 256],
-    limits: &mut [u32; 320],
-    offsets: &mut [u16; 257],
-    used: &mut [u32; 256],
-    tree: &mut [u32; 256],
-    at: usize,
-) -> usize
+    lists: &mut Lists,
+    groups: &mut Groups,
+)
     requires all_small { AllSmall (take k list.old) n bound (length list.old - k)
         × (k ≤ length list.old)
-        × (0 < bound)
-        × LentLists ones.old zeros.old walked.old paid.old
-        × Lent joined.old limits.old offsets.old used.old tree.old }
+        × (0 < bound) }
     requires loaded { Loaded weights.now planes.now (entries_for weights.now ones.old) (entries_for weights.now zeros.old) n
         × TurnsClear weights.now planes.now (entries_for weights.now ones.old) (entries_for weights.now zeros.old) (take k list.old) ws.old }
-    requires room { Room
-        (at + length (walk_over weights.now planes.now (entries_for weights.now ones.old) (entries_for weights.now zeros.old) (take k list.old)).groups)
-        walked.old paid.old }
+    requires room { groups.old.count
+        + length (walk_over weights.now planes.now (entries_for weights.now ones.old) (entries_for weights.now zeros.old) (take k list.old)).groups ≤ 63 }
     ensures { Grown weights.now (entries_for weights.now ones.new) (entries_for weights.now zeros.new)
         ws.old ws.new
         (walk_over weights.now planes.now (entries_for weights.now ones.old) (entries_for weights.now zeros.old)
         (take k list.old))
-        (first_groups walked.old paid.old at) (first_groups walked.new paid.new result) at result
-        × LentLists ones.new zeros.new walked.new paid.new
-        × Lent joined.new limits.new offsets.new used.new tree.new }
+        (listed groups.old) (listed groups.new) groups.old.count groups.new.count }
 {
-    let mut end = at;
     for i in 0usize..k {
         let part = list[i];
-        end = grow(
+        grow(
             weights,
             planes,
             ones,
@@ -175,15 +134,8 @@ fn walk(
             n,
             part,
             &mut list[k..],
-            walked,
-            paid,
-            joined,
-            limits,
-            offsets,
-            used,
-            tree,
-            end,
+            lists,
+            groups,
         );
     }
-    end
 }

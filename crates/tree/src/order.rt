@@ -1,34 +1,19 @@
 // The lists of an answer: groups from walking order into file order, and the flips of the columns that have any.
-ghost use Rattle.std.specs.Prelude.{◌≡◌, true, cond, [], ◌∷◌, ◌++◌, ◌+◌, ◌*◌, ◌≤◌, ◌<◌, eqb, length, get_or};
-ghost use Rattle.taxa.specs.Sum.{sum};
+ghost use Rattle.std.specs.Prelude.{◌≡◌, cond, [], ◌∷◌, ◌++◌, ◌+◌, ◌*◌, ◌^◌, ◌≤◌, ◌<◌, eqb, length};
 ghost use Rattle.taxa.specs.Sets.{low};
 ghost use Rattle.matrix.specs.Matrix.{columns_at};
-ghost use Rattle.method.specs.Tree.{column, kept, ordered, flip_list};
+ghost use Rattle.method.specs.Tree.{column, kept, ordered, total, flip_list};
 ghost use Rattle.split.specs.Columns.{matrix_in};
 ghost use Rattle.tree.specs.inner.Lists as lists;
-ghost use Rattle.tree.specs.Lists.{first_groups, first_flips};
-ghost use Rattle.tree.specs.inner.Lists.{starts_at, Room, FlipRoom, SameFrom, unweighed};
+ghost use Rattle.tree.specs.Lists.{listed, first_flips};
+ghost use Rattle.tree.specs.inner.Lists.{starts_at, FlipRoom, SameFrom, unweighed};
 
-// One group more, where a test holds. Returns how many there are then.
-pub fn put_group(
-    take: bool,
-    taxa: &mut [u64],
-    costs: &mut [u32],
-    at: usize,
-    group: u64,
-    cost: u32,
-) -> usize
-    requires { take ≡ true → (at < length taxa.old) × (at < length costs.old) }
-    ensures size { result ≡ at + cond take 1 0 }
-    ensures list { first_groups taxa.new costs.new result
-        ≡ first_groups taxa.old costs.old at ++ cond take (record { taxa = group; cost = cost } ∷ []) [] }
-{
-    if take {
-        taxa[at] = group;
-        costs[at] = cost;
-        return at + 1;
-    }
-    at
+// Groups, each with its cost. Every group but the first is a part of one before it, so 64 taxa have no more than 63.
+#[derive(Drop)]
+pub struct Groups {
+    pub taxa: [u64; 63],
+    pub costs: [u32; 63],
+    pub count: usize,
 }
 
 // Whether a group's lowest taxon is i.
@@ -38,48 +23,66 @@ fn starts_at(group: u64, i: u32) -> bool
     taxa::low(group) == i
 }
 
-// The groups whose lowest taxon is i, as walked, after those that stand before `at`. Returns how many there are then.
-fn keep_lowest(
-    walked: &[u64],
-    paid: &[u32],
-    k: usize,
-    i: u32,
-    taxa: &mut [u64],
-    costs: &mut [u32],
-    at: usize,
-) -> usize
-    requires { Room k walked.now paid.now
-        × Room (at + length (kept (starts_at i) (first_groups walked.now paid.now k))) taxa.old costs.old }
-    ensures size { result ≡ at + length (kept (starts_at i) (first_groups walked.now paid.now k)) }
-    ensures list { first_groups taxa.new costs.new result
-        ≡ first_groups taxa.old costs.old at ++ kept (starts_at i) (first_groups walked.now paid.now k) }
-{
-    let mut end = at;
-    for g in 0usize..k {
-        let group = walked[g];
-        end = put_group(starts_at(group, i), taxa, costs, end, group, paid[g]);
+impl Groups {
+    pub fn new() -> Groups
+        ensures { result.count ≡ 0 }
+    {
+        Groups {
+            taxa: [0; 63],
+            costs: [0; 63],
+            count: 0,
+        }
     }
-    end
-}
 
-// Groups in file order: for each taxon, rising, those of which it is the lowest. Returns how many there are.
-pub fn in_order(
-    walked: &[u64],
-    paid: &[u32],
-    k: usize,
-    n: u32,
-    taxa: &mut [u64],
-    costs: &mut [u32],
-) -> usize
-    requires { Room k walked.now paid.now × Room (length (ordered 64 n (first_groups walked.now paid.now k))) taxa.old costs.old }
-    ensures size { result ≡ length (ordered 64 n (first_groups walked.now paid.now k)) }
-    ensures list { first_groups taxa.new costs.new result ≡ ordered 64 n (first_groups walked.now paid.now k) }
-{
-    let mut end = 0;
-    for i in 0u32..n {
-        end = keep_lowest(walked, paid, k, i, taxa, costs, end);
+    // One group more.
+    pub fn put(&mut self, group: u64, cost: u32)
+        requires { self.old.count < 63 }
+        ensures size { self.new.count ≡ self.old.count + 1 }
+        ensures list { listed self.new ≡ listed self.old ++ (record { taxa = group; cost = cost } ∷ []) }
+    {
+        self.taxa[self.count] = group;
+        self.costs[self.count] = cost;
+        self.count += 1;
     }
-    end
+
+    // Those whose lowest taxon is i, as walked, after those that stand here.
+    fn keep_lowest(&mut self, walked: &Groups, i: u32)
+        requires { (walked.now.count ≤ 63) × (self.old.count + length (kept (starts_at i) (listed walked.now)) ≤ 63) }
+        ensures size { self.new.count ≡ self.old.count + length (kept (starts_at i) (listed walked.now)) }
+        ensures list { listed self.new ≡ listed self.old ++ kept (starts_at i) (listed walked.now) }
+    {
+        for g in 0..walked.count {
+            let group = walked.taxa[g];
+            if starts_at(group, i) {
+                self.put(group, walked.costs[g]);
+            }
+        }
+    }
+
+    // The same in file order: for each taxon, rising, those of which it is the lowest.
+    pub fn in_order(&self, n: u32) -> Groups
+        requires { (self.now.count ≤ 63) × (length (ordered 64 n (listed self.now)) ≤ 63) }
+        ensures size { result.count ≡ length (ordered 64 n (listed self.now)) }
+        ensures list { listed result ≡ ordered 64 n (listed self.now) }
+    {
+        let mut rising = Groups::new();
+        for i in 0..n {
+            rising.keep_lowest(self, i);
+        }
+        rising
+    }
+
+    // The sum of their costs.
+    pub fn total(&self) -> u32
+        requires { (self.now.count ≤ 63) × (total (listed self.now) < 2 ^ 32) }
+        ensures { result ≡ total (listed self.now) }
+    {
+        let mut total: u32 = 0;
+        for i in 0..self.count {
+            total += self.costs[i];
+        }
+        total
+    }
 }
 
 // Whether a column has no flip.
@@ -142,16 +145,4 @@ pub fn list_flips(
         end = put_flips(columns, ones, zeros, end, c as u64, up, down);
     }
     end
-}
-
-// The sum of the first k costs.
-pub fn sum_costs(costs: &[u32], k: usize) -> u32
-    requires { (k ≤ length costs.now) × (sum k (λ i. get_or costs.now i 0) < 4294967296) }
-    ensures { result ≡ sum k (λ i. get_or costs.now i 0) }
-{
-    let mut total: u32 = 0;
-    for i in 0usize..k {
-        total += costs[i];
-    }
-    total
 }

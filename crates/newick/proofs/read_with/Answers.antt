@@ -1,12 +1,13 @@
 -- `newick::read_with` meets its contract.
-use Rattle.newick.proofs.Places.{ended_well, ended_ill}
+use Rattle.record.proofs.Passing.{handed_on}
 use Rattle.newick.proofs.Finding.{found, told}
 use Rattle.newick.proofs.read_with.Goals as goal
 
-pub returns-then-last-gt0 : goal.returns-then-last-gt0
-returns-then-last-gt0 c = told _ _ _ (ended_ill _ _ _ _ c.if-last-gt0.true c.read_text-last.ensures)
+pub returns-in_err-end : goal.returns-in_err-end
+returns-in_err-end c =
+    rw (handed_on _ _ c.from_residual.ensures.1) (told _ _ _ (rw c.in_err-end.was at c.read_text.ensures))
 
 pub write_found-requires : goal.write_found-requires
 write_found-requires c =
-    let (h, ts, e) = ended_well _ _ _ _ c.if-last-gt0.false c.read_text-last.ensures in
+    let (h, ts, e) = rw c.in_ok-end.was at c.read_text.ensures in
     found h e

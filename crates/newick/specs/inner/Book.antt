@@ -1,6 +1,8 @@
 -- What the reader keeps in its lists, as the ledger that they hold, and where it stands.
-use Rattle.std.specs.Prelude.{◌≡◌, Bool, true, false, ◌||◌, List, [], ◌∷◌, ℕ, zero, suc, ◌+◌, ◌-◌, ◌^◌, ◌≤◌, ◌<◌, eqb, length, get_or, set, take, drop}
+use Rattle.std.specs.Prelude.{◌≡◌, Bool, true, false, ◌||◌, List, [], ◌∷◌, ℕ, zero, suc, ◌+◌, ◌-◌, ◌^◌, ◌≤◌, ◌<◌, eqb, length, get_or, set, take, drop, Result, Ok, Err}
 use Rattle.taxa.specs.Sets.{◌∪◌}
+use Rattle.record.specs.declared.refusal.Refusal.{Refusal}
+use Rattle.record.specs.Refusals.{refusal_number}
 use Rattle.grammar.specs.Bytes.{is_letter, byte, right, comma, semicolon}
 use Rattle.grammar.specs.Trees.{Trees}
 use Rattle.grammar.specs.Limits.{number}
@@ -10,7 +12,6 @@ use Rattle.grammar.specs.inner.Standing.{Run, piece, Standing}
 use Rattle.ledger.specs.inner.Ledger.{Ledger, Opened, unwritten, note, outcome}
 use Rattle.newick.specs.declared.Book.{Book}
 use Rattle.newick.specs.declared.Reading.{Reading}
-use Rattle.newick.specs.declared.Stepped.{Stepped}
 use Rattle.newick.specs.inner.Names.{Placed, names_in}
 
 -- The first d open brackets, the last first.
@@ -89,14 +90,10 @@ pub record NameTo (text : List ℕ) (k : Book) (r : Reading) (end i : ℕ) : Typ
   pub known : i < r.taxa
   pub numbered : i ≡ number (names_in text k.starts k.sizes r.taxa) (piece text r.at (end - r.at))
 
--- What a token comes to, by the number of its refusal: with 0 the reader stands further on, else the text is refused there.
-abbrev pub LeadsBy : List ℕ → Book → ℕ → Reading → ℕ → Type 0
-LeadsBy text k from r zero = Holds text k r × (from < r.at) × (r.at ≤ length text)
-LeadsBy text k from r (suc n) = outcome text ≡ refused (suc n) r.at
-
 -- A token read: the reader stands further on, or the text is refused.
-abbrev pub Leads : List ℕ → Book → ℕ → Stepped → Type 0
-Leads text k from s = LeadsBy text k from s.reading s.refusal
+abbrev pub Leads : List ℕ → Book → ℕ → Result Reading Refusal → Type 0
+Leads text k from (Ok r) = Holds text k r × (from < r.at) × (r.at ≤ length text)
+Leads text k from (Err why) = outcome text ≡ refused (refusal_number why.reason) why.place
 
 -- Room for 64 names, 256 columns and 64 open brackets.
 pub record Roomy (k : Book) : Type 0 where
@@ -108,11 +105,7 @@ pub record Roomy (k : Book) : Type 0 where
   pub before_room : length k.before ≡ 64
   pub filled_room : length k.filled ≡ 64
 
--- What the text comes to at its end, likewise: it is accepted with the ledger that the lists hold, or refused.
-abbrev pub EndsBy : List ℕ → Book → Reading → ℕ → Type 0
-EndsBy text k r zero = Holds text k r × (ts : Trees) × (outcome text ≡ accepted ts (ledger_in text k r))
-EndsBy text k r (suc n) = outcome text ≡ refused (suc n) r.at
-
--- The text read to its end.
-abbrev pub Ends : List ℕ → Book → Stepped → Type 0
-Ends text k s = EndsBy text k s.reading s.refusal
+-- The text read to its end: it is accepted with the ledger that the lists hold, or refused.
+abbrev pub Ends : List ℕ → Book → Result Reading Refusal → Type 0
+Ends text k (Ok r) = Holds text k r × (ts : Trees) × (outcome text ≡ accepted ts (ledger_in text k r))
+Ends text k (Err why) = outcome text ≡ refused (refusal_number why.reason) why.place

@@ -20,11 +20,12 @@ connected-met-requires c =
     let p = c.requires in
     let g = p.0 in
     let e = c.network_of.ensures in
-    let network = net g e.0 e.1 c.offsets_of.ensures (λ k b. omega (arith, c.type_inv.weights k)) in
-    -- The places are as many as the group's network has arcs.
-    let arcs = arcs_are g e.0 e.1 in
-    let room : sizes a.m (nth c.network_of.new.joined) ≤ length a.ws.now = omega (arith, arcs, p.1) in
-    (network, room, omega (arith, c.single-s.ensures, pow-lt (below a.n g.group c.lowest.ensures.2)), p.2.spare)
+    (omega (arith, arcs_are g e.0 e.1, p.1), omega (arith, c.single-s.ensures, pow-lt (below a.n g.group c.lowest.ensures.2)))
+
+pub invariant_of-free : goal.invariant_of-free
+invariant_of-free c =
+    let e = c.network_of.ensures in
+    record { sound = net c.requires.0 e.0 e.1 c.offsets_of.ensures (λ k b. omega (arith, c.type_inv.weights k)) }
 
 -- The group is in parts already, or
 pub returns-then-off-gt0 : goal.returns-then-off-gt0
@@ -43,29 +44,6 @@ returns-then-off-gt0 c =
       divided_free g e.0 e.1 a.ws.now network room d.0 d.1 c.difference-off.ensures c.lowest-then-off-gt0.ensures.0 c.lowest-then-off-gt0.ensures.2,
       told,
       rw (sym arcs) emptied,
-      record { joins = e.0.long; limits = e.1.long; offsets = c.offsets_of.ensures.long; spare = d.2 },
-    )
-
--- flows decide.
-pub by_flows-requires : goal.by_flows-requires
-by_flows-requires c =
-    let a = c.args in
-    let p = c.requires in
-    let g = p.0 in
-    let e = c.network_of.ensures in
-    -- The places are as many as the group's network has arcs.
-    let arcs = arcs_are g e.0 e.1 in
-    let room : sizes a.m (nth c.network_of.new.joined) ≤ length a.ws.now = omega (arith, arcs, p.1) in
-    let emptied = cleared_kept a.ws.now c.connected-met.ensures.1 room in
-    -- What ties the taxa went behind the limits, which are as they were.
-    let still = limits_still g.columns c.ties_of.ensures.2 e.1 in (
-      net g e.0 still c.offsets_of.ensures (λ k b. omega (arith, c.type_inv.weights k)),
-      omega (arith, room, emptied.long),
-      g.group,
-      g.two,
-      record { counts = c.ties_of.ensures.1.long; tree = c.connected-met.ensures.2.tree },
-      c.ties_of.ensures.0,
-      c.ties_of.ensures.1,
     )
 
 pub returns : goal.returns
@@ -85,13 +63,7 @@ returns c =
       f.0.each a.ones.now a.zeros.now g e.0 still,
       told,
       rw (sym arcs) (kept_then emptied f.1),
-      record { joins = e.0.long; limits = still.long; offsets = c.offsets_of.ensures.long; spare = f.2 },
     )
 
 pub lowest-requires : goal.lowest-requires
 lowest-requires c = count_pos c.args.n (omega (arith, c.requires.0.two))
-
-pub ties_of-requires : goal.ties_of-requires
-ties_of-requires c =
-    let g = c.requires.0 in
-    (g.columns, g.weights, c.network_of.ensures.1.long, c.connected-met.ensures.2.counts)

@@ -17,23 +17,16 @@ next : (c : goal.After-size) →
 next c = let row = nth c.args.joined.now in omega (arith, c.size.ensures, sizes_next row c.loop-c.c, c.loop-c.invariant.1)
 
 few : (c : goal.After-size) → c.loop-c.sum + c.size.result ≤ 16384
-few c = omega (arith, next c, sizes_few (nth c.args.joined.now) (c.loop-c.c + 1), c.loop-c-test.true, c.requires.0)
+few c = omega (arith, next c, sizes_few (nth c.args.joined.now) (c.loop-c.c + 1), c.loop-c-test.true, c.requires)
 
 pub loop-c-init : goal.loop-c-init
 unfolding sizes sum
-loop-c-init c = (omega arith, refl, table_start (λ e. sizes e (nth c.args.joined.now)) c.requires.1)
+loop-c-init c = (omega arith, refl, table_start (λ e. sizes e (nth c.args.joined.now)) (omega arith))
 
 pub loop-c-preserved : goal.loop-c-preserved
 loop-c-preserved c =
     let l = c.loop-c in
-    (omega arith, next c, table_next l.invariant.2 (omega (arith, c.requires.0)) l.invariant.1)
-
-pub returns : goal.returns
-returns c =
-    let v = c.loop-c in
-    let e : v.c ≡ c.args.m = omega arith in
-    let t = rw e at (table_next v.invariant.2 (omega (arith, c.requires.0)) v.invariant.1) in
-    record { long = t.long; is = λ k b. t.is k (omega arith) }
+    (omega arith, next c, table_next l.invariant.2 (omega (arith, c.requires)) l.invariant.1)
 
 pub overflow_cast-sum : goal.overflow_cast-sum
 overflow_cast-sum c = omega (arith, few c)

@@ -1,6 +1,6 @@
 -- `split::split_loaded` meets its contract: the file's columns are loaded, and the method's split of them is the file's.
 use native.Mathlib.Omega.{arith}
-use mathlib.Core.Path.{refl, ◌∙◌}
+use mathlib.Core.Path.{◌∙◌}
 use Prim.Native.Nat.{◌≤◌}
 use Rattle.record.specs.Bytes.{File}
 use Rattle.matrix.proofs.Taken.{taken_multiplied}
@@ -33,7 +33,7 @@ divide-requires c =
     let bytes : File c.args.file.now = record { byte = λ i. omega (arith, c.type_inv.file i) } in
     let few_arcs : arc_count c.args.m (cols_of c.load.new.weights c.load.new.ones c.load.new.zeros) c.args.group ≤ c.args.needed =
     arcs_fit bytes pre.0 pre.3 c.load.ensures.0 in
-    (given bytes pre.0 c.load.ensures.1 (c.load.ensures.2 ∙ pre.2) (read_positive bytes pre.0.taken _ c.planes_in-planes.ensures.0) c.planes_in-planes.ensures.1, omega (arith, few_arcs, pre.0.long, pre.3), record { joins = refl; limits = refl; offsets = refl; spare = record { counts = refl; tree = refl } })
+    (given bytes pre.0 c.load.ensures.1 (c.load.ensures.2 ∙ pre.2) (read_positive bytes pre.0.taken _ c.planes_in-planes.ensures.0) c.planes_in-planes.ensures.1, omega (arith, few_arcs, pre.0.long, pre.3))
 
 pub returns : goal.returns
 returns c =

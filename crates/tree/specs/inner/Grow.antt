@@ -15,7 +15,7 @@ use Rattle.split.specs.inner.Handing.{Parallel}
 use Rattle.split.specs.Columns.{matrix_in}
 use Rattle.tree.specs.Lists.{first_groups}
 use Rattle.tree.specs.Build.{tree_for}
-use Rattle.tree.specs.inner.Lists.{Room, unweighed}
+use Rattle.tree.specs.inner.Lists.{unweighed}
 use Rattle.record.specs.Refusals.{refused}
 use Rattle.record.specs.declared.refusal.Reason.TheVariants as reason
 use Rattle.record.specs.declared.refusal.Refusal.{Refusal}
@@ -59,13 +59,6 @@ pub record InFront (m : ℕ) (cols : ℕ → Column) (ws os zs : List ℕ) : Typ
   pub parallel : Parallel (take m ws) (take m os) (take m zs)
   pub sized : length (take m ws) ≡ m
 
--- The lists of columns and of groups that are lent while the tree grows.
-pub record LentLists (os zs taxa costs : List ℕ) : Type 0 where
-  pub ones : length os ≡ 256
-  pub zeros : length zs ≡ 256
-  pub walked : length taxa ≡ 63
-  pub paid : length costs ≡ 63
-
 -- The walk from a group, on columns in three lists and multiplicities in planes.
 abbrev pub walk_from : List ℕ → List ℕ → List ℕ → List ℕ → ℕ → Walk
 walk_from ws P os zs S = build 64 (multiplicity_in P) (length ws) (cols_of ws os zs) S
@@ -90,7 +83,7 @@ pub record AllSmall (Ps : List ℕ) (n bound room : ℕ) : Type 0 where
 
 -- k groups as walked, whose list in file order fits 63 places and whose total fits 4 bytes.
 pub record Walked (n : ℕ) (walked paid : List ℕ) (k : ℕ) : Type 0 where
-  pub listed : Room k walked paid
+  pub listed : k ≤ 63
   pub few : length (ordered 64 n (first_groups walked paid k)) ≤ 63
   pub small : total (ordered 64 n (first_groups walked paid k)) < 2 ^ 32
 

@@ -1,5 +1,4 @@
 -- `newick::Book::read_text` meets its contract. The invariant: the reader stands between tokens, past the blanks, and all that was read is in its lists.
-use Rattle.newick.proofs.Places.{led_on}
 use Rattle.newick.proofs.Ends.{begins}
 use Rattle.newick.proofs.Book.read_text.Goals as goal
 
@@ -10,6 +9,6 @@ loop-here-init c =
 
 pub loop-here-preserved : goal.loop-here-preserved
 loop-here-preserved c =
-    let went = led_on _ _ _ _ _ c.if-next-gt0.false c.take_token-next.ensures in
+    let went = rw c.in_ok-next.was at c.take_token.ensures in
     let p = c.past_blanks-here-in-loop-here.ensures in
     (p.3 _ went.0, p.0, p.2)

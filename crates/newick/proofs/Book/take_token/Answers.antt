@@ -7,7 +7,7 @@ use Rattle.newick.proofs.Book.take_token.Goals as goal
 use Rattle.newick.proofs.Book.take_token.Goals.{then-from+else-may_follow, else-from+else-is_at+else-text-at-eq-LEFT}
 
 pub returns-then-is_at : goal.returns-then-is_at
-returns-then-is_at c = c.with_sign.ensures _ (c.take_name-named.ensures c.requires.0 (search rules))
+returns-then-is_at c = c.with_sign.ensures _ (rw c.in_ok-named.was at (c.take_name.ensures c.requires.0 (search rules)))
 
 pub returns : goal.returns
 returns c =
@@ -15,7 +15,7 @@ returns c =
     elim c.if-from.branch [
       | then-from+else-may_follow w ↦
           let (no-right, no-comma, no-semicolon) = no_sign _ (sym w.may_follow.ensures ∙ w.if-may_follow.false) in
-          rw c.refused.ensures (wrong_after h w.if-from.true inside no_blank no-right no-comma no-semicolon)
+          rw c.at.ensures (wrong_after h w.if-from.true inside no_blank no-right no-comma no-semicolon)
       | else-from+else-is_at+else-text-at-eq-LEFT w ↦
-          rw c.refused.ensures (wrong_before h w.if-from.false inside no_blank (sym w.is_at.ensures ∙ w.if-is_at.false) w.if-text-at-eq-LEFT.false)
+          rw c.at.ensures (wrong_before h w.if-from.false inside no_blank (sym w.is_at.ensures ∙ w.if-is_at.false) w.if-text-at-eq-LEFT.false)
     ]

@@ -1,14 +1,10 @@
 -- `promises::operations::search` meets its contract: what the search promises, with the method's split of sets of 64 taxa.
-use mathlib.Core.Path.{refl}
 use Rattle.split.proofs.Dividing.{found_split}
 use Rattle.promises.proofs.operations.search.Goals as goal
 
-pub divide-requires : goal.divide-requires
-divide-requires c = (c.requires.0, c.requires.1, record { joins = refl; limits = refl; offsets = refl; spare = record { counts = refl; tree = refl } })
-
 pub returns : goal.returns
 returns c =
-    let (d, arcs, kept, lent) = c.divide.ensures in (
+    let (d, arcs, kept) = c.divide.ensures in (
       record {
         flow = d.flow;
         reached = λ i b. (λ x. (d.reached i b).0 x.is, λ h. record { is = (d.reached i b).1 h });

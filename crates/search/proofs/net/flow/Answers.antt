@@ -5,7 +5,6 @@ use mathlib.Core.List.{List}
 use Prim.Native.Nat.{ℕ, ◌+◌}
 use lib.IntN.{ℤ, pos}
 use lib.ListN.{get_or}
-use native.Mathlib.Omega.{arith}
 use borrow.Author.Rules.{rules}
 use Rattle.taxa.specs.Sets.{has, count}
 use Rattle.search.specs.Signed.{out_of, inn_of}
@@ -26,6 +25,3 @@ returns c = λ row e k h.
     let out : c.out_of.result ≡ out_of (get_or c.args.ws.now c.slot.result (pos 0)) = search rules in
     let inn : c.inn_of.result ≡ inn_of (get_or c.args.ws.now c.slot.result (pos 0)) = search rules in
     (out ∙ ap out_of at, inn ∙ ap inn_of at)
-
-pub bounds-ws-slot : goal.bounds-ws-slot
-bounds-ws-slot c = omega (arith, c.slot.ensures, c.requires.place)

@@ -1,12 +1,8 @@
 -- `reach::offer` meets its contract: four stores at j, or none.
 use native.Mathlib.Omega.{arith}
-use mathlib.Core.Path.{refl}
-use Rattle.search.specs.inner.Reaching.{stays, joins}
+use Rattle.search.specs.inner.Reaching.{joins}
 use Rattle.search.proofs.Reaching.{joined, long}
 use Rattle.search.proofs.reach.offer.Goals as goal
-
-pub returns-then-k-eq0 : goal.returns-then-k-eq0
-returns-then-k-eq0 c = stays c.if-k-eq0.true refl refl
 
 pub returns : goal.returns
 returns c =
@@ -15,5 +11,5 @@ returns c =
     joins
     (omega arith)
     (rw (c.union.ensures, c.single.ensures))
-    (rw (c.union.ensures, c.single.ensures) (joined a.tree.now a.j a.i a.c a.stamp a.k p.3 p.0 a.met))
-    (long a.tree.now a.j a.i a.c a.stamp a.k p.3 p.0)
+    (rw (c.union.ensures, c.single.ensures) (joined a.tree.now a.j a.i a.c a.stamp a.k (omega arith) p.0 a.met))
+    (long a.tree.now a.j a.i a.c a.stamp a.k (omega arith) p.0)

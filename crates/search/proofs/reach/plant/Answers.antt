@@ -3,28 +3,11 @@ use native.Mathlib.Omega.{arith}
 use mathlib.Core.Path.{◌≡◌, sym, ap, ◌∙◌}
 use Prim.Native.Nat.{ℕ, ◌^◌}
 use Rattle.taxa.specs.Sets.{◌∖◌}
-use Rattle.search.proofs.Reaching.{plant_none, plant_one}
+use Rattle.search.proofs.Reaching.{plant_one}
 use Rattle.search.proofs.reach.plant.Goals as goal
-
-pub loop-left-init : goal.loop-left-init
-loop-left-init c = plant_none c.args.sources c.requires
-
-pub bounds-tree-x : goal.bounds-tree-x
-bounds-tree-x c = omega (arith, c.lowest-x.ensures.1)
-
-pub bounds-tree-x-in-loop-left : goal.bounds-tree-x-in-loop-left
-bounds-tree-x-in-loop-left c = omega (arith, c.lowest-x.ensures.1)
 
 pub loop-left-preserved : goal.loop-left-preserved
 loop-left-preserved c =
     let v = c.loop-left in
     let q : c.rest-left.result ≡ v.left ∖ 2 ^ c.lowest-x.result = c.rest-left.ensures.0 ∙ ap (λ (y : ℕ). v.left ∖ 2 ^ y) (sym c.lowest-x.ensures.0) in
     plant_one v.invariant c.lowest-x.result 4294967295 c.lowest-x.ensures.1 (omega arith) q
-
-pub returns : goal.returns
-returns c =
-    let e : c.loop-left.left ≡ 0 = omega arith in
-    rw e at c.loop-left.invariant
-
-pub loop-left-smaller : goal.loop-left-smaller
-loop-left-smaller c = c.rest-left.ensures.1

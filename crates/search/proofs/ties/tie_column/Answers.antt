@@ -3,18 +3,10 @@ use native.Mathlib.Omega.{arith}
 use Rattle.search.proofs.Bonds.{column_none, column_added}
 use Rattle.search.proofs.ties.tie_column.Goals as goal
 
-pub overflow_add-own : goal.overflow_add-own
-overflow_add-own c =
-    let l = c.lowest-first in
-    omega (arith, c.requires.2.own_few l.result l.ensures.1, c.wide.ensures.1)
-
 pub returns : goal.returns
 returns c =
     rw c.lowest-first.ensures.0
-    (column_added (omega arith) (omega (arith, c.if-x-eq0.false)) c.rest.ensures.0 c.tie.ensures c.requires.1 (omega (arith, c.wide.ensures.0)))
+    (column_added (omega arith) (omega (arith, c.if-x-eq0.false)) c.rest.ensures.0 c.tie.ensures (omega arith) (omega (arith, c.from.ensures)))
 
 pub returns-then-x-eq0 : goal.returns-then-x-eq0
-returns-then-x-eq0 c = rw c.if-x-eq0.true (column_none c.requires.0 c.requires.1)
-
-pub tie-requires : goal.tie-requires
-tie-requires c = let p = c.requires in (p.0, p.2.ties_few)
+returns-then-x-eq0 c = rw c.if-x-eq0.true (column_none (omega arith) (omega arith))

@@ -1,7 +1,7 @@
 -- `ties::ties_of` meets its contract. The invariant: what the columns passed tie, each at most 65,535.
 use native.Mathlib.Omega.{arith}
-use mathlib.Core.Path.{◌≡◌, refl}
-use Rattle.search.proofs.Bonds.{few_next, few_more, few_none, same_then, ties_start, weighed_start, ties_next, weighed_next}
+use mathlib.Core.Path.{refl}
+use Rattle.search.proofs.Bonds.{few_next, few_none, same_then, ties_start, weighed_start, ties_next, weighed_next}
 use Rattle.search.proofs.ties.ties_of.Goals as goal
 
 pub loop-c-init : goal.loop-c-init
@@ -16,11 +16,6 @@ loop-c-init c =
       few_none none own,
     )
 
-pub tie_column-requires : goal.tie_column-requires
-tie_column-requires c =
-    let v = c.loop-c.invariant in
-    (v.1.long, v.2.long, few_more v.4 (omega (arith, v.0, c.requires.0)))
-
 pub loop-c-preserved : goal.loop-c-preserved
 loop-c-preserved c =
     let v = c.loop-c.invariant in
@@ -31,9 +26,3 @@ loop-c-preserved c =
       same_then v.3 e.tied.limits,
       few_next v.4 e (omega (arith, c.type_inv.weights c.loop-c.c)),
     )
-
-pub returns : goal.returns
-returns c =
-    let v = c.loop-c in
-    let e : v.c ≡ c.args.m = omega arith in
-    (rw e at v.invariant.1, rw e at v.invariant.2, same_then c.untied.ensures.0 v.invariant.3)

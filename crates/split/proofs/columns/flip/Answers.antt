@@ -5,7 +5,7 @@ use Rattle.taxa.specs.Sets.{◌∩◌, ◌∖◌, mass, multiplicity_in}
 use Rattle.split.proofs.Flipping.{raised, lowered_side, lowered_rest}
 use Rattle.split.proofs.columns.flip.Goals as goal
 
-pub returns-then-z-min : goal.returns-then-z-least
+pub returns-then-z-min : goal.returns-then-z-min
 returns-then-z-min c =
     -- The ones in the rest of the group.
     let b_is : c.mass_common-b.result ≡ mass 64 (multiplicity_in c.args.planes.now) (c.args.it.ones ∩ (c.args.group ∖ c.args.side)) =

@@ -4,5 +4,5 @@ use Rattle.split.proofs.group.divide.Goals as goal
 
 pub returns : goal.returns
 returns c =
-    let (found, arcs, kept, lent) = c.divide-found.ensures in
-    (found_split c.requires.0 found, used_cleared arcs kept c.clear_places.ensures, lent)
+    let (found, arcs, kept) = c.divide-found.ensures in
+    (found_split c.requires.0 found, used_cleared arcs kept c.clear_places.ensures)

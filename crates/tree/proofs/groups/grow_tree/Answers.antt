@@ -7,7 +7,7 @@ use Rattle.taxa.specs.Sets.{multiplicity, multiplicity_in}
 use Rattle.matrix.proofs.Taken.{taken_multiplied}
 use Rattle.split.specs.Columns.{matrix_in}
 use Rattle.split.proofs.Soundness.{can_load, few_columns, read_multiplicities}
-use Rattle.tree.proofs.Building.{lent_columns, lent_ready, lent_room, to_order, has_grown}
+use Rattle.tree.proofs.Building.{lent_columns, lent_ready, lent_fits, to_order, has_grown}
 use Rattle.tree.proofs.groups.grow_tree.Goals as goal
 
 -- ---- what the calls ask for
@@ -37,19 +37,16 @@ slice_bounds-grow_all-end c =
 -- ---- what comes back
 
 -- What the planes hold are the file's multiplicities.
-pub grow_all-k-requires : goal.grow_all-k-requires
-grow_all-k-requires c =
+pub grow_all-requires : goal.grow_all-requires
+grow_all-requires c =
     let f : File c.args.file.now = record { byte = λ i. omega (arith, c.type_inv.file i) } in
     let (b, counted) = c.requires in
     let front = c.load_columns.ensures in
     let planes = c.planes_in-planes in
     let same : multiplicity_in planes.result ≡ multiplicity (matrix_in c.args.file.now).multiplicities = read_multiplicities f b.taken planes.result planes.ensures.0 in
     record {
-      ready = (
-        lent_ready f b _ _ _ _ front same planes.ensures.1 _ counted c.clear.ensures refl,
-        record { ones = omega (arith, c.load_columns.auto.ones); zeros = omega (arith, c.load_columns.auto.zeros); walked = refl; paid = refl },
-      );
-      room = lent_room f b _ _ _ _ front refl refl;
+      ready = lent_ready f b _ _ _ _ front same planes.ensures.1 _ counted c.clear.ensures refl;
+      room = omega (arith, c.new-walked.ensures, lent_fits f b _ planes.result _ _ front);
     }
 
 pub in_file_order-requires : goal.in_file_order-requires
@@ -59,7 +56,8 @@ in_file_order-requires c =
     let front = c.load_columns.ensures in
     let planes = c.planes_in-planes in
     let same : multiplicity_in planes.result ≡ multiplicity (matrix_in c.args.file.now).multiplicities = read_multiplicities f b.taken planes.result planes.ensures.0 in
-    to_order f b _ _ _ _ _ _ _ _ _ _ _ same (lent_columns f b _ planes.result _ _ front) front.sized c.grow_all-k.ensures.0 c.grow_all-k.ensures.1
+    let grown = rw c.new-walked.ensures at c.grow_all.ensures in
+    to_order f b _ _ _ _ _ _ _ _ _ _ _ same (lent_columns f b _ planes.result _ _ front) front.sized grown
 
 pub returns : goal.returns
 returns c =
@@ -67,7 +65,8 @@ returns c =
     let b = c.requires.0 in
     let front = c.load_columns.ensures in
     let planes = c.planes_in-planes in
-    let same : multiplicity_in planes.result ≡ multiplicity (matrix_in c.args.file.now).multiplicities = read_multiplicities f b.taken planes.result planes.ensures.0 in (
-      has_grown f b _ _ _ _ _ _ _ _ _ _ _ same (lent_columns f b _ planes.result _ _ front) front.sized c.grow_all-k.ensures.0 c.grow_all-k.ensures.1 c.in_file_order.ensures,
-      c.grow_all-k.ensures.0.workspace ∙ rw (← c.requires.1) c.clear.ensures,
+    let same : multiplicity_in planes.result ≡ multiplicity (matrix_in c.args.file.now).multiplicities = read_multiplicities f b.taken planes.result planes.ensures.0 in
+    let grown = rw c.new-walked.ensures at c.grow_all.ensures in (
+      has_grown f b _ _ _ _ _ _ _ _ _ _ _ same (lent_columns f b _ planes.result _ _ front) front.sized grown (omega arith) (omega arith) c.in_file_order.ensures,
+      grown.workspace ∙ rw (← c.requires.1) c.clear.ensures,
     )

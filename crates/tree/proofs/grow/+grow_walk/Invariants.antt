@@ -5,10 +5,10 @@ use mathlib.Core.Path.{◌≡◌}
 use lib.ListN.{length, take, drop}
 use Rattle.taxa.specs.Sets.{multiplicity_in, count}
 use Rattle.method.specs.Tree.{build}
-use Rattle.search.specs.Search.{Lent, cols_of}
+use Rattle.search.specs.Search.{cols_of}
 use Rattle.split.specs.inner.Handing.{Parallel}
-use Rattle.tree.specs.Lists.{first_groups}
-use Rattle.tree.specs.inner.Grow.{entries_for, LentLists, TurnsClear}
+use Rattle.tree.specs.Lists.{listed}
+use Rattle.tree.specs.inner.Grow.{entries_for, TurnsClear}
 use Rattle.tree.proofs.Walking.{Going}
 use Rattle.tree.proofs.grow.+grow_walk.Given as goal
 
@@ -21,12 +21,11 @@ decreases-walk l = 2 * l.bound
 abbrev pub invariant-walk-loop-i : goal.invariant-walk-loop-i
 invariant-walk-loop-i l =
     (l.i ≤ l.k) × Parallel l.weights (entries_for l.weights l.ones) (entries_for l.weights l.zeros) × (l.ws ≡ l.initial.ws) × (length l.list ≡ length l.initial.list)
-    × (take l.k l.list ≡ take l.k l.initial.list) × LentLists l.ones l.zeros l.walked l.paid
+    × (take l.k l.list ≡ take l.k l.initial.list)
     × Going (build 64 (multiplicity_in l.planes) (length l.weights)) (take l.k l.initial.list)
     (cols_of l.weights (entries_for l.weights l.initial.ones) (entries_for l.weights l.initial.zeros))
-    (cols_of l.weights (entries_for l.weights l.ones) (entries_for l.weights l.zeros)) (first_groups l.initial.walked l.initial.paid l.at) (first_groups l.walked l.paid l.end)
-    l.at l.end l.i
-    × Lent l.joined l.limits l.offsets l.used l.tree
+    (cols_of l.weights (entries_for l.weights l.ones) (entries_for l.weights l.zeros)) (listed l.initial.groups) (listed l.groups)
+    l.initial.groups.count l.groups.count l.i
     × TurnsClear l.weights l.planes (entries_for l.weights l.ones) (entries_for l.weights l.zeros) (drop l.i (take l.k l.initial.list)) l.initial.ws
 
 abbrev pub decreases-walk-loop-i : goal.decreases-walk-loop-i

@@ -17,19 +17,19 @@ in_front {ws} {os' = os'} {zs'} more-ones more-zeros h =
 pub split_group-requires : goal.split_group-requires
 split_group-requires c =
     let p = c.requires in
-    (p.0, p.1, p.2, p.3, p.4)
+    (p.0, p.1, p.2, p.3)
 
 pub returns : goal.returns
-returns c = let h = c.split_group.ensures in (in_front _ _ h.0, h.1, h.2)
+returns c = let h = c.split_group.ensures in (in_front _ _ h.0, h.1)
 
 pub slice_bounds-split_group-end : goal.slice_bounds-split_group-end
-slice_bounds-split_group-end c = c.requires.5
+slice_bounds-split_group-end c = c.requires.4
 
 pub slice_bounds-split_group-end-2 : goal.slice_bounds-split_group-end-2
-slice_bounds-split_group-end-2 c = sym (length-take-le _ _ c.requires.5)
+slice_bounds-split_group-end-2 c = sym (length-take-le _ _ c.requires.4)
 
 pub slice_bounds-split_group-end-3 : goal.slice_bounds-split_group-end-3
-slice_bounds-split_group-end-3 c = c.requires.6
+slice_bounds-split_group-end-3 c = c.requires.5
 
 pub slice_bounds-split_group-end-4 : goal.slice_bounds-split_group-end-4
-slice_bounds-split_group-end-4 c = sym (length-take-le _ _ c.requires.6)
+slice_bounds-split_group-end-4 c = sym (length-take-le _ _ c.requires.5)

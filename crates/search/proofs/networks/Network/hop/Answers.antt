@@ -1,0 +1,31 @@
+-- `Network::hop` meets its contract: it is one `send` between the places of the two pairs.
+use Prim.Native.Nat.{ℕ, ◌+◌}
+use mathlib.Core.Path.{◌≡◌, ◌∙◌}
+use Rattle.taxa.specs.Sets.{count, sizes}
+use Rattle.search.specs.Workspace.{slot}
+use Rattle.search.specs.inner.Places.{IsColumn}
+use Rattle.search.specs.Search.{nth}
+use Rattle.search.proofs.Workspace.{slot_lt, column_place, can_send, hopped, sent_kept}
+use Rattle.search.proofs.networks.Network.hop.Goals as goal
+
+-- A place.
+place : {row : ℕ → ℕ} {c joined offset at : ℕ} (i : ℕ) → at ≡ offset + count i joined → IsColumn row c joined offset → at ≡ slot row c i
+place i q k = q ∙ column_place i k
+
+pub send-requires : goal.send-requires
+send-requires c =
+    let a = c.args in
+    rw (place a.i c.slot-a.ensures c.column_at-column.ensures.0, place a.j c.slot-b.ensures c.column_at-column.ensures.0) (can_send a.ws.now a.self.now.joined.now a.self.now.offsets.now a.c a.i a.j a.d c.requires.0)
+
+pub returns : goal.returns
+returns c =
+    let p = c.requires.0 in
+    let a = c.args in
+    let row = nth a.self.now.joined.now in
+    let e = rw (place a.i c.slot-a.ensures c.column_at-column.ensures.0, place a.j c.slot-b.ensures c.column_at-column.ensures.0) at c.send.ensures in
+    rw e (
+      hopped a.ws.now a.self.now.joined.now a.self.now.offsets.now a.c a.i a.j a.d p,
+      λ m b.
+          sent_kept (sizes m row) a.ws.now (slot row a.c a.i) (slot row a.c a.j) a.d
+          (slot_lt row m a.c a.i b p.from.taxon p.from.joins) (slot_lt row m a.c a.j b p.to.taxon p.to.joins),
+    )

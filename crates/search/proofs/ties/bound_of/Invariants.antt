@@ -1,9 +1,0 @@
--- `ties::bound_of` meets its contract. The invariant: to part one taxon alone costs less than the bound.
-use Rattle.search.proofs.Bonds.{Binding}
-use Rattle.search.proofs.ties.bound_of.Given as goal
-
-abbrev pub invariant-loop-left : goal.invariant-loop-left
-invariant-loop-left l = Binding l.planes l.limits l.own l.group l.left l.bound
-
-abbrev pub decreases-loop-left : goal.decreases-loop-left
-decreases-loop-left l = l.left
