@@ -9,9 +9,12 @@ use lib.Dec.{ltb}
 use lib.ListN.{length, take}
 use lib.Seq.{length-take-le}
 use borrow.Author.Tests.{lt-ltb, le-ltb}
+use Rattle.std.specs.Prelude.{Result, Ok, Err}
 use Rattle.record.specs.Bytes.{over}
 use Rattle.record.specs.Refusals as refusals
 use Rattle.record.specs.Refusals.{refusal_number}
+use Rattle.record.specs.declared.refusal.Refusal.{Refusal}
+use Rattle.record.specs.declared.refusal.Reason.TheVariants as reason
 use Rattle.grammar.specs.Trees.{Trees}
 use Rattle.grammar.specs.Verdict.{accepted, refused}
 use Rattle.grammar.specs.Columns.{Bytes}
@@ -33,9 +36,6 @@ use Rattle.newick.specs.inner.Book.{ledger_in, Holds}
 use Rattle.newick.specs.inner.Found.{Found}
 use Rattle.newick.proofs.Names.{length_names}
 use Rattle.newick.proofs.Reasons.{reason_there}
-use Rattle.std.specs.Prelude.{Result, Ok, Err}
-use Rattle.record.specs.declared.refusal.Refusal.{Refusal}
-use Rattle.record.specs.declared.refusal.Reason.TheVariants as reason
 use Rattle.newick.specs.declared.Derived.{Derived}
 
 -- A text that is accepted.

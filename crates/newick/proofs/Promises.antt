@@ -8,9 +8,12 @@ use Prim.Native.Nat.{ℕ, ◌+◌, ◌*◌, ◌≤◌, ◌<◌}
 use native.Mathlib.Omega.{arith}
 use lib.ListN.{length, get_or, get_or-map}
 use lib.Seq.{take_at}
+use Rattle.std.specs.Prelude.{Result, Ok, Err}
 use Rattle.record.specs.Bytes.{over}
 use Rattle.record.specs.Refusals as refusals
 use Rattle.record.specs.Refusals.{refusal_number}
+use Rattle.record.specs.declared.refusal.Refusal.{Refusal}
+use Rattle.record.specs.declared.refusal.Reason.TheVariants as reason
 use Rattle.grammar.specs.Trees.{Trees}
 use Rattle.grammar.specs.Columns.{Bytes, Column, all_columns}
 use Rattle.grammar.specs.Limits.{taxa}
@@ -28,6 +31,7 @@ use Rattle.matrix.specs.Check.{checked}
 use Rattle.matrix.proofs.Encoding.{file_taken, file_holds}
 use Rattle.matrix.proofs.Taken.{column_of_lem}
 use Rattle.matrix.proofs.Writing.{length_file}
+use Rattle.matrix.specs.Check.{shape}
 use Rattle.names.specs.Names.{list_of, list_length}
 use Rattle.names.specs.Check as list
 use Rattle.names.proofs.Encoding as encoding
@@ -37,10 +41,6 @@ use Rattle.newick.specs.Held.{SourceTrees, matrix_of_trees, matrix_room, names_r
 use Rattle.newick.proofs.Taken.{Comes, taken, short, faulty, trees_accepted, read_taken, read_short, comes}
 use Rattle.newick.proofs.Reasons.{number_there}
 use Rattle.newick.proofs.Taken.{matrix_legal, length_columns, names_legal, column_of, encoded}
-use Rattle.std.specs.Prelude.{Result, Ok, Err}
-use Rattle.record.specs.declared.refusal.Refusal.{Refusal}
-use Rattle.matrix.specs.Check.{shape}
-use Rattle.record.specs.declared.refusal.Reason.TheVariants as reason
 use Rattle.newick.specs.declared.Derived.{Derived}
 
 abbrev number_of : Result Derived Refusal → ℕ

@@ -6,8 +6,8 @@ use Prim.Native.String.{String}
 use Rattle.taxa.specs.Sets.{◌∪◌, ◌∖◌}
 use Rattle.record.specs.Bytes.{bytes_of}
 use Rattle.record.specs.Records.{opening_of, record_bytes}
-use Rattle.grammar.specs.Bytes.{mark}
 use Rattle.record.specs.Bytes.{equal}
+use Rattle.grammar.specs.Bytes.{mark}
 use Rattle.grammar.specs.Limits.{is_in, seen, number}
 use Rattle.grammar.specs.Reader.{ended, step, ending}
 use Rattle.grammar.specs.Verdict.{named, judge, verdict}

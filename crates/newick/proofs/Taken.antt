@@ -10,9 +10,12 @@ use native.Mathlib.Omega.{arith}
 use lib.Dec.{ltb, lit<}
 use lib.ListN.{length, get_or, length-map}
 use borrow.Author.Tests.{le-ltb, lt-ltb}
+use Rattle.std.specs.Prelude.{Result, Ok, Err}
 use Rattle.taxa.specs.Sets.{◌∈◌, ◌∉◌}
 use Rattle.taxa.proofs.Members.{in∖}
 use Rattle.record.specs.Refusals as refusals
+use Rattle.record.specs.declared.refusal.Refusal.{Refusal}
+use Rattle.record.specs.declared.refusal.Reason.TheVariants as reason
 use Rattle.grammar.specs.Trees.{Trees}
 use Rattle.grammar.specs.Columns.{Bytes, Column, all_columns}
 use Rattle.grammar.specs.Limits.{taxa}
@@ -29,9 +32,6 @@ use Rattle.matrix.specs.Matrix.{absent, LegalColumns, none, one}
 use Rattle.names.specs.Names as names
 use Rattle.newick.specs.Read.{matrix_for, reason_of, answered, read}
 use Rattle.newick.specs.Held.{SourceTrees, matrix_of_trees, matrix_room, names_room, Fit, Short, Encodes}
-use Rattle.std.specs.Prelude.{Result, Ok, Err}
-use Rattle.record.specs.declared.refusal.Refusal.{Refusal}
-use Rattle.record.specs.declared.refusal.Reason.TheVariants as reason
 use Rattle.newick.specs.declared.Derived.{Derived}
 
 -- ---- what reading comes to

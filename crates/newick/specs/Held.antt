@@ -2,6 +2,7 @@
 use Rattle.std.specs.Prelude.{◌≡◌, ◌↔◌, ◌⊎◌, ℕ, ◌≤◌, ◌<◌, length, take, Result}
 use mathlib.Core.List.{List, Memᴰ}
 use Rattle.taxa.specs.Sets.{◌∈◌, ◌∉◌}
+use Rattle.record.specs.declared.refusal.Refusal.{Refusal}
 use Rattle.grammar.specs.Trees.{Trees}
 use Rattle.grammar.specs.Text.{Newick}
 use Rattle.grammar.specs.Columns.{Bytes, Column, all_columns}
@@ -10,7 +11,6 @@ use Rattle.matrix.specs.Matrix.{Matrix, file_of}
 use Rattle.matrix.specs.declared.Column as matrix
 use Rattle.names.specs.Names.{list_of}
 use Rattle.newick.specs.Read.{matrix_for, returned, Reads}
-use Rattle.record.specs.declared.refusal.Refusal.{Refusal}
 use Rattle.newick.specs.declared.Derived.{Derived}
 
 -- The source trees of a text: it spells them, and they are within the limits.

@@ -1,17 +1,17 @@
 -- The operation "read source trees" (document 02, C-11): a Newick text, and two lent outputs, for a matrix file and for a name list.
 use Rattle.std.specs.Prelude.{◌≡◌, ◌||◌, cond, List, [], map, ℕ, ltb, eqb, length, Result, Ok, Err}
 use Rattle.record.specs.Bytes.{over}
+use Rattle.record.specs.declared.refusal.Refusal.{Refusal}
+use Rattle.record.specs.declared.refusal.Reason.{Reason}
+use Rattle.record.specs.declared.refusal.Reason.TheVariants as reason
+use Rattle.record.specs.Refusals as refusals
+use Rattle.record.specs.Refusals.{refusal_number}
 use Rattle.grammar.specs.Columns.{Bytes, Column}
 use Rattle.grammar.specs.Verdict.{Verdict, accepted, refused}
 use Rattle.grammar.specs.Clerk.{Tally, outcome}
 use Rattle.ledger.specs.Sets.{ones_of, zeros_of}
 use Rattle.matrix.specs.Matrix.{Matrix, file_of}
 use Rattle.names.specs.Names.{list_of}
-use Rattle.record.specs.declared.refusal.Refusal.{Refusal}
-use Rattle.record.specs.declared.refusal.Reason.{Reason}
-use Rattle.record.specs.declared.refusal.Reason.TheVariants as reason
-use Rattle.record.specs.Refusals as refusals
-use Rattle.record.specs.Refusals.{refusal_number}
 use Rattle.newick.specs.declared.Derived.{Derived}
 
 -- "Every inner vertex but the root gives a column of weight 1", as sets of taxa "numbered by first appearance".

@@ -41,14 +41,15 @@ pub struct Book {
     pub filled: [bool; DEPTH],
 }
 
-// Where the reader stands between two tokens, whether a subtree has just ended there, and what it has counted. Of the file: whether a tree is finished,
+// Where the reader stands between two tokens: whether a subtree has just ended there, and what it has counted. Of the file: whether a tree is finished,
 // how many taxa, and how many columns in the trees that are finished. Of the tree that is read: its names, how many brackets have opened, and how many
-// of these are open.
+// of these are open. (A refusal's two fields lie over the first and the third, of the same sizes, so that what is read stays in the processor's
+// registers: bench/newick.sh.)
 #[derive(Clone, Copy)]
 pub struct Reading {
-    pub at: usize,
     pub ended: bool,
     pub finished: bool,
+    pub at: usize,
     pub taxa: usize,
     pub columns: usize,
     pub here: u64,

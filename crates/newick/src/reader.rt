@@ -12,9 +12,9 @@ use record::refusal::{Reason, Refusal};
 impl Reading {
     // Before the first token.
     const START: Reading = Reading {
-        at: 0,
         ended: false,
         finished: false,
+        at: 0,
         taxa: 0,
         columns: 0,
         here: 0,
@@ -34,7 +34,7 @@ impl Reading {
     }
 
     // The end of the text: it may come behind a finished tree, before another begins.
-    fn take_end(self) -> Result<Reading, Refusal>
+    fn take_end(self) -> Result<Self, Refusal>
         ensures { (text : List ℕ) (k : Book) → Holds text k self → self.at ≡ length text → Ends text k result }
     {
         if !self.ended && self.finished && self.depth == 0 {
