@@ -39,7 +39,7 @@ impl Reading {
         if !self.ended && self.finished && self.depth == 0 {
             Stepped::on(self)
         } else {
-            Stepped::refused(16, self.at, self)
+            Stepped::refused(16, self)
         }
     }
 }

@@ -7,7 +7,6 @@ ghost use Rattle.newick.specs.declared.Book.{Book};
 ghost use Rattle.newick.specs.inner.Names.{Placed};
 ghost use Rattle.newick.specs.inner.Book.{Bracketed, SignAt, Holds, NameTo, Leads, standing, with_name, clade_put, may_follow};
 
-use super::hints::hint;
 use super::letters::Letters;
 use super::{Book, COLUMNS, DEPTH, Reading, Stepped, TAXA};
 
@@ -44,6 +43,18 @@ impl Reading {
             ..self
         }
     }
+
+    // A name that the file has, taxon i.
+    fn take_known(self, end: usize, i: usize) -> Stepped
+        requires { i < 64 }
+        ensures { (text : List ℕ) (k : Book) → Holds text k self → self.ended ≡ false → NameTo text k self end i → Leads text k self.at result }
+    {
+        if taxa::subset(taxa::single(i as u32), self.here) {
+            Stepped::refused(18, self)
+        } else {
+            Stepped::on(self.behind_name(end, self.taxa, i))
+        }
+    }
 }
 
 impl Stepped {
@@ -57,26 +68,14 @@ impl Stepped {
         }
     }
 
-    // The text is refused by a number, at a place.
-    pub fn refused(number: u8, place: usize, from: Reading) -> Self
-        ensures { result ≡ record { reading = standing from place; refusal = number } }
+    // The text is refused by a number, where the reader stands.
+    pub fn refused(number: u8, reading: Reading) -> Self
+        ensures { result ≡ record { reading = reading; refusal = number } }
     {
         Stepped {
-            reading: from.standing(place),
+            reading,
             refusal: number,
         }
-    }
-}
-
-// A name that the file has, taxon i.
-fn take_known(from: Reading, end: usize, i: usize) -> Stepped
-    requires { i < 64 }
-    ensures { (text : List ℕ) (k : Book) → Holds text k from → from.ended ≡ false → NameTo text k from end i → Leads text k from.at result }
-{
-    if taxa::subset(taxa::single(i as u32), from.here) {
-        Stepped::refused(18, from.at, from)
-    } else {
-        Stepped::on(from.behind_name(end, from.taxa, i))
     }
 }
 
@@ -121,11 +120,11 @@ impl Book {
         let size = end - from.at;
         let i = self.number_of(text, from.taxa, from.at, size);
         if TAXA <= i {
-            return Stepped::refused(19, from.at, from);
+            return Stepped::refused(19, from);
         }
-        hint(&mut self.hints, text, from.at, size, i);
+        self.hint(text, from.at, size, i);
         if i < from.taxa {
-            return take_known(from, end, i);
+            return from.take_known(end, i);
         }
         self.starts[i] = from.at;
         self.sizes[i] = size;
@@ -142,11 +141,11 @@ impl Book {
         let end = letters.end(text, from.at + 1);
         let size = end - from.at;
         if NAME_BYTES < size {
-            return Stepped::refused(17, from.at + NAME_BYTES, from);
+            return Stepped::refused(17, from.standing(from.at + NAME_BYTES));
         }
         let i = self.hinted(text, from.taxa, from.at, size);
         if i < from.taxa {
-            take_known(from, end, i)
+            from.take_known(end, i)
         } else {
             self.take_listed(text, from, end)
         }
@@ -161,11 +160,11 @@ impl Book {
             → Leads text self.new from.at result }
     {
         if COLUMNS < from.columns + from.opened {
-            return Stepped::refused(19, from.at, from);
+            return Stepped::refused(19, from);
         }
         let depth = from.depth;
         if depth == DEPTH {
-            return Stepped::refused(20, from.at, from);
+            return Stepped::refused(20, from);
         }
         put_clade(&mut self.ones, from.columns, from.opened, 0);
         self.index[depth] = from.opened;
@@ -189,11 +188,11 @@ impl Book {
             → Leads text self.new from.at result }
     {
         if from.depth == 0 {
-            return Stepped::refused(16, from.at, from);
+            return Stepped::refused(16, from);
         }
         let last = from.depth - 1;
         if !self.filled[last] {
-            return Stepped::refused(16, from.at, from);
+            return Stepped::refused(16, from);
         }
         let clade = taxa::difference(from.here, self.before[last]);
         put_clade(&mut self.ones, from.columns, self.index[last], clade);
@@ -214,7 +213,7 @@ impl Book {
             → Leads text self.new from.at result }
     {
         if from.depth == 0 {
-            return Stepped::refused(16, from.at, from);
+            return Stepped::refused(16, from);
         }
         self.filled[from.depth - 1] = true;
         Stepped::on(Reading {
@@ -233,7 +232,7 @@ impl Book {
             → Leads text self.new from.at result }
     {
         if 0 < from.depth {
-            return Stepped::refused(16, from.at, from);
+            return Stepped::refused(16, from);
         }
         let columns = from.columns + from.opened.saturating_sub(1);
         fill_zeros(&self.ones, &mut self.zeros, from, columns);
@@ -295,6 +294,6 @@ impl Book {
         } else if text[at] == LEFT {
             return self.take_left(from, at + 1);
         }
-        Stepped::refused(16, at, from)
+        Stepped::refused(16, from)
     }
 }

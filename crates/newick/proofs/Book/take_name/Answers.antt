@@ -19,7 +19,7 @@ name inside e run = (run_from inside e run, omega (arith, run.up))
 
 pub returns-then-size-gt-NAME_BYTES : goal.returns-then-size-gt-NAME_BYTES
 returns-then-size-gt-NAME_BYTES c = λ h e.
-    rw c.refused.ensures (name_17 h e _ (name c.requires.1 c.requires.2 c.end-end.ensures).0 (search rules))
+    rw (c.refused.ensures, c.standing.ensures) (name_17 h e _ (name c.requires.1 c.requires.2 c.end-end.ensures).0 (search rules))
 
 pub returns-then-i-from : goal.returns-then-i-from
 returns-then-i-from c = λ h e.
