@@ -225,7 +225,7 @@ impl Book {
 
     // A semicolon: a tree is finished, and its clades are columns.
     fn take_semicolon(&mut self, from: Reading, next: usize) -> Stepped
-        requires { Bracketed self.old from }
+        requires { (from.columns ≤ 256) × (from.columns + from.opened ≤ 257) }
         ensures { (text : List ℕ) → Holds text self.old from
             → from.ended ≡ true
             → SignAt text from.at (byte semicolon) next
