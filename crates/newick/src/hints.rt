@@ -94,13 +94,14 @@ impl Book {
             n
         }
     }
-}
 
-// Hints at taxon i from the name at a place.
-pub fn hint(hints: &mut [u8; HINTS], text: &[u8], at: usize, size: usize, i: usize)
-    requires { (1 ≤ size) × (size ≤ 32) × (at + size ≤ length text.now) × (i < 64) }
-{
-    if WORD <= text.len() - at {
-        hints[place_of(text, at, size)] = i as u8;
+    // Hints at taxon i from the name at a place.
+    pub fn hint(&mut self, text: &[u8], at: usize, size: usize, i: usize)
+        requires { (1 ≤ size) × (size ≤ 32) × (at + size ≤ length text.now) × (i < 64) }
+        ensures { self.new ≡ record self.old { hints = self.new.hints } }
+    {
+        if WORD <= text.len() - at {
+            self.hints[place_of(text, at, size)] = i as u8;
+        }
     }
 }

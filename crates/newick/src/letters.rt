@@ -34,17 +34,12 @@ impl Letters {
         requires { at + 4 ≤ length text.now }
         ensures { Of 4 is_letter text.now at result }
     {
-        if !self.is_at(text, at) {
-            0
-        } else if !self.is_at(text, at + 1) {
-            1
-        } else if !self.is_at(text, at + 2) {
-            2
-        } else if !self.is_at(text, at + 3) {
-            3
-        } else {
-            4
+        for more in 0..4 {
+            if !self.is_at(text, at + more) {
+                return more;
+            }
         }
+        4
     }
 
     // The end of the letters that start at a place, one by one.

@@ -7,7 +7,6 @@ ghost use Rattle.newick.specs.declared.Book.{Book};
 ghost use Rattle.newick.specs.inner.Names.{Placed};
 ghost use Rattle.newick.specs.inner.Book.{Bracketed, SignAt, Holds, NameTo, Leads, standing, with_name, clade_put, may_follow};
 
-use super::hints::hint;
 use super::letters::Letters;
 use super::{Book, COLUMNS, DEPTH, Reading, TAXA};
 use record::refusal::{Reason, Refusal};
@@ -45,17 +44,17 @@ impl Reading {
             ..self
         }
     }
-}
 
-// A name that the file has, taxon i.
-fn take_known(from: Reading, end: usize, i: usize) -> Result<Reading, Refusal>
-    requires { i < 64 }
-    ensures { (text : List ℕ) (k : Book) → Holds text k from → from.ended ≡ false → NameTo text k from end i → Leads text k from.at result }
-{
-    if taxa::subset(taxa::single(i as u32), from.here) {
-        Err(Reason::Repeated.at(from.at))
-    } else {
-        Ok(from.behind_name(end, from.taxa, i))
+    // A name that the file has, taxon i.
+    fn take_known(self, end: usize, i: usize) -> Result<Self, Refusal>
+        requires { i < 64 }
+        ensures { (text : List ℕ) (k : Book) → Holds text k self → self.ended ≡ false → NameTo text k self end i → Leads text k self.at result }
+    {
+        if taxa::subset(taxa::single(i as u32), self.here) {
+            Err(Reason::Repeated.at(self.at))
+        } else {
+            Ok(self.behind_name(end, self.taxa, i))
+        }
     }
 }
 
@@ -102,9 +101,9 @@ impl Book {
         if TAXA <= i {
             return Err(Reason::TooMany.at(from.at));
         }
-        hint(&mut self.hints, text, from.at, size, i);
+        self.hint(text, from.at, size, i);
         if i < from.taxa {
-            return take_known(from, end, i);
+            return from.take_known(end, i);
         }
         self.starts[i] = from.at;
         self.sizes[i] = size;
@@ -130,7 +129,7 @@ impl Book {
         }
         let i = self.hinted(text, from.taxa, from.at, size);
         if i < from.taxa {
-            take_known(from, end, i)
+            from.take_known(end, i)
         } else {
             self.take_listed(text, from, end)
         }
@@ -210,7 +209,7 @@ impl Book {
 
     // A semicolon: a tree is finished, and its clades are columns.
     fn take_semicolon(&mut self, from: Reading, next: usize) -> Result<Reading, Refusal>
-        requires { Bracketed self.old from }
+        requires { (from.columns ≤ 256) × (from.columns + from.opened ≤ 257) }
         ensures { (text : List ℕ) → Holds text self.old from
             → from.ended ≡ true
             → SignAt text from.at (byte semicolon) next

@@ -11,11 +11,11 @@ use Rattle.newick.proofs.Book.list_length.Goals as goal
 
 pub loop-size-init : goal.loop-size-init
 unfolding names_in list_length
-loop-size-init c = (search rules, search rules, λ text starts p. refl)
+loop-size-init c = (search rules, λ text starts p. refl)
 
 pub loop-size-preserved : goal.loop-size-preserved
 loop-size-preserved c =
     let l = c.loop-size in
     let among : l.size-index < c.args.n = search rules in
     let short = c.requires.1 l.size-index among in
-    (search rules, rw get_or-take (omega arith), λ text starts p. rw get_or-take (omega (arith, l.invariant.2 text starts p, length_next p l.size-index among)))
+    (rw get_or-take (omega arith), λ text starts p. rw get_or-take (omega (arith, l.invariant.1 text starts p, length_next p l.size-index among)))

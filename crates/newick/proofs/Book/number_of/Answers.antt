@@ -9,10 +9,10 @@ pub returns-then-same_names : goal.returns-then-same_names
 returns-then-same_names c =
     let l = c.loop-i in
     let a = c.args in
-    found a.text.now a.self.now.starts a.self.now.sizes a.n _ l.i (search rules) l.invariant.1 (sym c.same_names.ensures ∙ c.if-same_names.true)
+    found a.text.now a.self.now.starts a.self.now.sizes a.n _ l.i (search rules) l.invariant (sym c.same_names.ensures ∙ c.if-same_names.true)
 
 pub returns : goal.returns
 returns c =
     let a = c.args in
     let all : c.loop-i.i ≡ a.n = omega arith in
-    not_found a.text.now a.self.now.starts a.self.now.sizes a.n _ (rw all at c.loop-i.invariant.1)
+    not_found a.text.now a.self.now.starts a.self.now.sizes a.n _ (rw all at c.loop-i.invariant)

@@ -13,7 +13,7 @@ pub loop-i-init : goal.loop-i-init
 unfolding names_in names_bytes list_length
 loop-i-init c =
     let a = c.args in
-    (search rules, omega (arith, length_records (names_in a.text.now a.self.now.starts a.self.now.sizes a.n)), search rules, search rules, nothing 0 _)
+    (omega (arith, length_records (names_in a.text.now a.self.now.starts a.self.now.sizes a.n)), search rules, search rules, nothing 0 _)
 
 pub put_name-requires : goal.put_name-requires
 put_name-requires c =
@@ -29,8 +29,8 @@ loop-i-preserved c =
     let below = room c.requires.placed.0 l.i (search rules) in
     let longer = length_next c.requires.placed.0 l.i (search rules) in
     let so_far = length_records (names_in a.text.now a.self.now.starts a.self.now.sizes l.i) in
-    let written = next _ _ _ _ _ l.invariant.4 c.put_name.ensures (omega arith) (omega arith) in
-    (search rules, omega arith, omega arith, search rules, rw (names_next a.text.now a.self.now.starts a.self.now.sizes l.i) written)
+    let written = next _ _ _ _ _ l.invariant.3 c.put_name.ensures (omega arith) (omega arith) in
+    (omega arith, omega arith, search rules, rw (names_next a.text.now a.self.now.starts a.self.now.sizes l.i) written)
 
 pub returns : goal.returns
 returns c =
@@ -38,4 +38,4 @@ returns c =
     let a = c.args in
     let all : l.i ≡ a.n = omega arith in
     let so_far = length_records (names_in a.text.now a.self.now.starts a.self.now.sizes l.i) in
-    rw (← all, list_flat, ← c.of.ensures) (next _ _ _ _ _ l.invariant.4 c.put_opening.ensures (omega arith) (omega arith))
+    rw (← all, list_flat, ← c.of.ensures) (next _ _ _ _ _ l.invariant.3 c.put_opening.ensures (omega arith) (omega arith))

@@ -12,5 +12,5 @@ returns-then-i-ge-TAXA c = λ h e.
 pub returns : goal.returns
 returns c = λ h e.
     let pre = c.requires in
-    rw c.behind_name.ensures
+    rw (c.behind_name.ensures, c.hint.ensures)
     (name_new (hinted_anyhow h _) e _ pre.1 pre.2 pre.3 _ c.number_of-i.ensures (search rules) (search rules), pre.2, pre.1.within)

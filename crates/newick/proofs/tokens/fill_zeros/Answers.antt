@@ -9,5 +9,5 @@ loop-c-preserved c =
     let l = c.loop-c in
     let a = c.args in
     let kept = take a.tree.columns a.zeros.now in
-    let more = zero_more a.ones.now l.zeros kept a.tree.here a.tree.columns l.c (search rules) (search rules) (search rules) l.invariant.3 in
-    (search rules, search rules, search rules, rw c.difference.ensures more)
+    let more = zero_more a.ones.now l.zeros kept a.tree.here a.tree.columns l.c (search rules) (search rules) (search rules) l.invariant.1 in
+    (search rules, rw c.difference.ensures more)

@@ -1,7 +1,7 @@
--- `newick::tokens::take_known` meets its contract.
+-- `newick::Reading::take_known` meets its contract.
 use mathlib.Core.Path.{sym, ◌∙◌}
 use Rattle.newick.proofs.Naming.{name_18, name_known}
-use Rattle.newick.proofs.tokens.take_known.Goals as goal
+use Rattle.newick.proofs.Reading.take_known.Goals as goal
 
 pub returns-then-subset : goal.returns-then-subset
 returns-then-subset c = λ text k h e n.
