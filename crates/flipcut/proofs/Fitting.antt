@@ -6,6 +6,7 @@ use Prim.Native.Nat.{ℕ, ◌^◌, ◌≤◌, ◌<◌}
 use native.Mathlib.Omega.{arith}
 use lib.ListN.{length}
 use Rattle.record.specs.Bytes.{File}
+use Rattle.record.proofs.Refusals.{few_numbers}
 use Rattle.matrix.specs.Check.{checked}
 use Rattle.matrix.proofs.Places.{refusal_small}
 use Rattle.matrix.proofs.Taken.{taken_legal, taken_taxa, taken_columns}
@@ -124,7 +125,7 @@ module _ (text : List ℕ) (room space : ℕ) where
       go : {r : Result Derived Refusal} → Comes text room space r → TreesFit r
       go (read.taken ts s fit) = let (sum, matrix, rest, list) = room_needed s in (omega arith, omega arith)
       go (read.short ts s lacks) = (omega arith, omega arith)
-      go (read.faulty number place f) = let (least, most, inside) = refused_known text f in (omega arith, omega arith)
+      go (read.faulty number place f) = let (some, few) = few_numbers (newick.reason_of number) in (omega arith, omega arith)
 
   pub trees_near : length text < 2 ^ 55 → (newick.read_numbers text room space).place < 2 ^ 55
   trees_near small = go (comes text room space)

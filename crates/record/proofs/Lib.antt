@@ -7,4 +7,5 @@ pub mod Over
 pub mod Steps
 pub mod Lengths
 pub mod Passing
+pub mod Refusals
 pub mod Places

@@ -1,5 +1,5 @@
 -- An answer whose numbers fit the bits that they are packed into.
-use Rattle.std.specs.Prelude.{◌^◌, ◌<◌, Result, Ok, Err}
+use Rattle.std.specs.Prelude.{ℕ, ◌^◌, ◌<◌, Result, Ok, Err}
 use Rattle.record.specs.declared.refusal.Refusal.{Refusal}
 use Rattle.answer.specs.declared.Answer.{Answer}
 use Rattle.flipcut.specs.Packed.{told}
