@@ -4,16 +4,16 @@ use Rattle.std.specs.Prelude.{◌≡◌, cond, List, [], ℕ, ltb, eqb, length, 
 use Rattle.taxa.specs.Sets.{all}
 use Rattle.record.specs.Bytes.{over}
 use Rattle.record.specs.Records.{Passed}
+use Rattle.record.specs.Refusals.{refused, refusal_number}
 use Rattle.record.specs.declared.Cursor.{Cursor}
+use Rattle.record.specs.declared.refusal.Refusal.{Refusal}
+use Rattle.record.specs.declared.refusal.Reason.TheVariants as reason
 use Rattle.answer.specs.Content.{content_in}
 use Rattle.answer.specs.Reading.{file_tests}
 use Rattle.grammar.specs.Trees.{Tree, one}
 use Rattle.grammar.specs.Columns.{Bytes}
 use Rattle.grammar.specs.Writer.{written}
 use Rattle.clades.specs.Draw.{drawn}
-use Rattle.record.specs.declared.refusal.Refusal.{Refusal}
-use Rattle.record.specs.declared.refusal.Reason.TheVariants as reason
-use Rattle.record.specs.Refusals.{refused, refusal_number}
 use Rattle.names.specs.Check.{names_in, checked}
 
 -- The name of taxon i by a name list file.
