@@ -93,6 +93,10 @@ module _ {W P J L F : List ℕ} {n m : ℕ} {ws : List ℤ} {U : List ℕ} (r : 
     unfolding carry most down room
     gate_carry j h = rw (gate_up, g.is_weight, g.is_free, r.sums c bc, caps_in W P J c j h, max_swap (inns ws (nth J) c i) (outs ws (nth J) c j) (nth L c - sum n (outs ws (nth J) c)))
 
+-- What an arc carries, by the weight that was read.
+pub is_arc : (W P : List ℕ) (c i : ℕ) {w k : ℕ} → k ≡ w * multiplicity_in P i → w ≡ nth W c → k ≡ arc W P c i
+is_arc W P c i q e = q ∙ ap (λ (w : ℕ). w * multiplicity_in P i) e
+
 -- A gate, of the net flow that was read.
 pub gate_of : {W P L U : List ℕ} {c i out inn out' inn' w u v : ℕ} → IsGate W P L U c i out inn w u v → (out ≡ out') × (inn ≡ inn') → IsGate W P L U c i out' inn' w u v
 gate_of g (o, e) = record { is_weight = g.is_weight; is_sends = rw (← o, ← e) g.is_sends; is_free = rw (← e) g.is_free }

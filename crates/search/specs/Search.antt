@@ -25,18 +25,6 @@ pub record Given (W P O Z : List ℕ) (S n m : ℕ) : Type 0 where
   pub positive : Positive (multiplicity_in P)
   pub tabled : Tabled P
 
--- The lent lists that the search counts in and grows its tree in: their room.
-pub record Spare (U Y : List ℕ) : Type 0 where
-  pub counts : length U ≡ 256
-  pub tree : length Y ≡ 256
-
--- All lent lists of the search.
-pub record Lent (J L F U Y : List ℕ) : Type 0 where
-  pub joins : length J ≡ 256
-  pub limits : length L ≡ 320
-  pub offsets : length F ≡ 257
-  pub spare : Spare U Y
-
 module _ (W P O Z : List ℕ) (S n m : ℕ) where
   -- "Arcs between a taxon of S and its columns [..] carry at most w", times the taxon's multiplicity.
   abbrev pub caps_of : ℕ → ℕ → ℕ

@@ -27,28 +27,26 @@ fn unless_none(z: u64, x: u64) -> u64
     if 0 < z { x } else { 0 }
 }
 
-// The network of the group: each column joins its ones in it, if it has a zero there, and lets its weight through for each specimen of its zeros.
-fn network_of(
-    weights: &[u16],
-    planes: &[u64; 72],
-    ones: &[u64],
-    zeros: &[u64],
-    group: u64,
-    m: usize,
-    joined: &mut [u64; 256],
-    limits: &mut [u32; 320],
-)
-    requires { (m ≤ 256)
-        × (m ≤ length weights.now)
-        × (m ≤ length ones.now)
-        × (m ≤ length zeros.now) }
-    ensures { Joins ones.now zeros.now group m joined.new
-        × Limits weights.now planes.now zeros.now group m limits.new }
-{
-    for c in 0..m {
-        let z = taxa::common(zeros[c], group);
-        joined[c] = unless_none(z, taxa::common(ones[c], group));
-        limits[c] = u32::from(weights[c]) * taxa::mass_in(planes, z);
+// The lists that are lent for the search of a group: three for its network, one that counts what runs through each column, and one that the tree of the taxa
+// reached grows in.
+#[derive(Drop)]
+pub struct Lists {
+    pub joined: [u64; 256],
+    pub limits: [u32; 320],
+    pub offsets: [u16; 257],
+    pub used: [u32; 256],
+    pub tree: [u32; 256],
+}
+
+impl Lists {
+    pub fn new() -> Lists {
+        Lists {
+            joined: [0; 256],
+            limits: [0; 320],
+            offsets: [0; 257],
+            used: [0; 256],
+            tree: [0; 256],
+        }
     }
 }
 
@@ -63,6 +61,32 @@ fn offsets_of(joined: &[u64; 256], m: usize, offsets: &mut [u16; 257])
         sum = sum + taxa::size(joined[c]) as u16;
     }
     offsets[m] = sum;
+}
+
+// The network of the group: each column joins its ones in it, if it has a zero there, and lets its weight through for each specimen of its zeros.
+fn network_of(
+    weights: &[u16],
+    planes: &[u64; 72],
+    ones: &[u64],
+    zeros: &[u64],
+    group: u64,
+    m: usize,
+    lists: &mut Lists,
+)
+    requires { (m ≤ 256)
+        × (m ≤ length weights.now)
+        × (m ≤ length ones.now)
+        × (m ≤ length zeros.now) }
+    ensures { Joins ones.now zeros.now group m lists.new.joined
+        × Limits weights.now planes.now zeros.now group m lists.new.limits
+        × Offsets lists.new.joined lists.new.offsets m }
+{
+    for c in 0..m {
+        let z = taxa::common(zeros[c], group);
+        lists.joined[c] = unless_none(z, taxa::common(ones[c], group));
+        lists.limits[c] = u32::from(weights[c]) * taxa::mass_in(planes, z);
+    }
+    offsets_of(&lists.joined, m, &mut lists.offsets);
 }
 
 // The least cost so far, and the taxon that it was met at first; `NOBODY`, while it is a bound that was not met.
@@ -189,29 +213,6 @@ impl Network<'_> {
     }
 }
 
-// The lists that are lent for the search of a group: three for its network, one that counts what runs through each column, and one that the tree of the taxa
-// reached grows in.
-#[derive(Drop)]
-pub struct Lists {
-    pub joined: [u64; 256],
-    pub limits: [u32; 320],
-    pub offsets: [u16; 257],
-    pub used: [u32; 256],
-    pub tree: [u32; 256],
-}
-
-impl Lists {
-    pub fn new() -> Lists {
-        Lists {
-            joined: [0; 256],
-            limits: [0; 320],
-            offsets: [0; 257],
-            used: [0; 256],
-            tree: [0; 256],
-        }
-    }
-}
-
 // The division that document 01 takes. Cost 0 is found without a flow; else the flow of the taxon that is parted stands in the workspace, whose places
 // the offsets tell.
 pub fn divide(
@@ -231,17 +232,7 @@ pub fn divide(
         × (nth lists.new.offsets m ≡ arc_count m (cols_of weights.now ones.now zeros.now) group)
         × Kept (arc_count m (cols_of weights.now ones.now zeros.now) group) ws.old ws.new }
 {
-    network_of(
-        weights,
-        planes,
-        ones,
-        zeros,
-        group,
-        m,
-        &mut lists.joined,
-        &mut lists.limits,
-    );
-    offsets_of(&lists.joined, m, &mut lists.offsets);
+    network_of(weights, planes, ones, zeros, group, m, lists);
     let s = taxa::single(taxa::lowest(group));
     let free = Network {
         weights,

@@ -6,6 +6,7 @@ ghost use Rattle.search.specs.inner.Places.{Diff, IsColumn, HasPlace, sent, CanS
 ghost use Rattle.search.specs.Workspace.{outs, inns, cleared, Kept};
 ghost use Rattle.search.specs.Search.{nth};
 ghost use Rattle.search.specs.inner.Network.{CanHop};
+ghost use Rattle.search.specs.inner.On as on;
 ghost use Rattle.method.proofs.Carry.{Hopped};
 
 use crate::networks::Network;
@@ -93,7 +94,7 @@ pub struct Column {
 impl Network<'_> {
     pub fn column_at(&self, c: usize) -> Column
         requires { c < self.now.m }
-        ensures { IsColumn (nth self.now.joined.now) c result.joined result.offset × (result.offset < 65536) }
+        ensures { on.IsColumn self.now c result.joined result.offset }
     {
         Column {
             joined: self.joined[c],

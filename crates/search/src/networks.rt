@@ -1,4 +1,5 @@
-// The network of a group, in lists that the search of the group only reads.
+// The network of a group, in lists that the search of the group only reads. What it writes, the workspace, the counts and the tree, is lent beside: of `&mut`s in a
+// struct whoever lent them knows nothing that its proof can name, once the struct is gone.
 ghost use Rattle.search.specs.inner.Network.{Net};
 
 // n taxa and m columns: each column's weight, the taxa that it joins and what it lets through; where its places in the workspace start, and after the last where

@@ -119,9 +119,8 @@ impl Network<'_> {
         }
         let i = taxa::lowest(here) as usize;
         let column = self.column_at(c);
-        let from = net::flow(ws, column, i);
-        let g = self.gate_at(used, c, i, from);
-        let d = self.carry_to(g, t, net::flow(ws, column, t));
+        let g = self.gate_at(ws, used, column, c, i);
+        let d = self.carry_to(ws, used, column, c, g, t);
         self.step(ws, used, c, i, t, d);
         size + d
     }

@@ -1,14 +1,13 @@
 // The taxa that hops reach from a set of sources past the flow, by sweeps over the columns. How each was reached goes into a lent tree, four numbers to a taxon: from
 // which taxon, through which column, at which turn, and the least that a hop of the way carries.
-ghost use Rattle.std.specs.Prelude.{◌≡◌, true, false, ◌+◌, ◌-◌, ◌*◌, ◌≤◌, ◌<◌, ◌^◌, min, max, length};
+ghost use Rattle.std.specs.Prelude.{◌≡◌, true, false, ◌+◌, ◌-◌, ◌*◌, ◌≤◌, ◌<◌, ◌^◌};
 ghost use Rattle.taxa.specs.Sets.{has, ◌⊆◌, multiplicity_in};
 ghost use Rattle.search.specs.Search.{nth};
-ghost use Rattle.search.specs.inner.Network.{arc};
 ghost use Rattle.search.specs.inner.Reaching.{turn_of, Offered, Missed, Planted};
 ghost use Rattle.search.specs.inner.On as on;
 
 use crate::net;
-use crate::net::NetFlow;
+use crate::net::Column;
 use crate::networks::Network;
 
 // In place of a taxon: none.
@@ -78,15 +77,15 @@ impl Network<'_> {
         weight * taxa::multiplicity(self.planes, i as u32)
     }
 
-    // What taxon i finds at column c.
-    pub fn gate_at(&self, used: &[u32; 256], c: usize, i: usize, flow: NetFlow) -> Gate
-        requires { (c < self.now.m)
-            × (flow.out ≤ arc self.now.weights.now self.now.planes.now c i)
-            × (flow.inn ≤ arc self.now.weights.now self.now.planes.now c i)
-            × (nth used.now c ≤ nth self.now.limits.now c)
-            × (i < 64) }
-        ensures { on.IsGate self.now used.now c i flow.out flow.inn result.weight result.sends result.free }
+    // What taxon i finds at column c, which joins it.
+    pub fn gate_at(&self, ws: &[i32], used: &[u32; 256], column: Column, c: usize, i: usize) -> Gate
+        requires { on.Ready self.now ws.now used.now
+            × (c < self.now.m)
+            × on.IsColumn self.now c column.joined column.offset
+            × (has (nth self.now.joined.now c) i ≡ true) }
+        ensures { on.IsGate self.now ws.now used.now c i result.weight result.sends result.free }
     {
+        let flow = net::flow(ws, column, i);
         let weight = u32::from(self.weights[c]);
         let most = self.arc(weight, i);
         let sends = spare(most, flow.inn, flow.out);
@@ -97,14 +96,24 @@ impl Network<'_> {
         }
     }
 
-    // What a hop to taxon j carries.
-    pub fn carry_to(&self, g: Gate, j: usize, flow: NetFlow) -> u32
-        requires { (g.weight < 65536)
-            × (flow.out ≤ g.weight * multiplicity_in self.now.planes.now j)
-            × (flow.inn ≤ g.weight * multiplicity_in self.now.planes.now j)
-            × (j < 64) }
-        ensures { result ≡ min (min g.sends (g.weight * multiplicity_in self.now.planes.now j + flow.out - flow.inn)) (max g.free flow.out) }
+    // What a hop to taxon j carries, which column c joins too.
+    pub fn carry_to(
+        &self,
+        ws: &[i32],
+        used: &[u32; 256],
+        column: Column,
+        c: usize,
+        g: Gate,
+        j: usize,
+    ) -> u32
+        requires { on.Ready self.now ws.now used.now
+            × (c < self.now.m)
+            × on.IsColumn self.now c column.joined column.offset
+            × (has (nth self.now.joined.now c) j ≡ true)
+            × (g.weight ≡ nth self.now.weights.now c) }
+        ensures { result ≡ on.offered self.now ws.now c j g.weight g.sends g.free }
     {
+        let flow = net::flow(ws, column, j);
         let most = self.arc(g.weight, j);
         let takes = spare(most, flow.out, flow.inn);
         g.sends.min(takes).min(g.free.max(flow.out))
@@ -121,8 +130,7 @@ impl Network<'_> {
         let mut left = x;
         while 0 < left {
             let i = taxa::lowest(left) as usize;
-            let flow = net::flow(ws, column, i);
-            let g = self.gate_at(used, c, i, flow);
+            let g = self.gate_at(ws, used, column, c, i);
             if 0 < g.sends {
                 if 0 < g.free {
                     return i;
@@ -154,7 +162,7 @@ impl Network<'_> {
         ensures { on.Passed self.now ws.now sources met result tree.new i c (turn_of tree.old i + 1) 0 }
     {
         let column = self.column_at(c);
-        let gate = self.gate_at(used, c, i, net::flow(ws, column, i));
+        let gate = self.gate_at(ws, used, column, c, i);
         // No hop carries more than the way to i.
         let g = Gate {
             weight: gate.weight,
@@ -166,7 +174,7 @@ impl Network<'_> {
         let mut left = taxa::difference(self.joined[c], met);
         while 0 < left {
             let j = taxa::lowest(left) as usize;
-            let k = self.carry_to(g, j, net::flow(ws, column, j));
+            let k = self.carry_to(ws, used, column, c, g, j);
             all = offer(tree, all, j, i, c, stamp, k);
             left = taxa::rest(left);
         }

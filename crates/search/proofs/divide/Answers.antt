@@ -25,7 +25,7 @@ connected-met-requires c =
 pub invariant_of-free : goal.invariant_of-free
 invariant_of-free c =
     let e = c.network_of.ensures in
-    record { sound = net c.requires.0 e.0 e.1 c.offsets_of.ensures (λ k b. omega (arith, c.type_inv.weights k)) }
+    record { sound = net c.requires.0 e.0 e.1 e.2 (λ k b. omega (arith, c.type_inv.weights k)) }
 
 -- The group is in parts already, or
 pub returns-then-off-gt0 : goal.returns-then-off-gt0
@@ -34,11 +34,11 @@ returns-then-off-gt0 c =
     let p = c.requires in
     let g = p.0 in
     let e = c.network_of.ensures in
-    let network = net g e.0 e.1 c.offsets_of.ensures (λ k b. omega (arith, c.type_inv.weights k)) in
+    let network = net g e.0 e.1 e.2 (λ k b. omega (arith, c.type_inv.weights k)) in
     -- The places are as many as the group's network has arcs.
     let arcs = arcs_are g e.0 e.1 in
-    let room : sizes a.m (nth c.network_of.new.joined) ≤ length a.ws.now = omega (arith, arcs, p.1) in
-    let told = c.offsets_of.ensures.is a.m (omega arith) ∙ arcs in
+    let room : sizes a.m (nth c.network_of.new.lists.joined) ≤ length a.ws.now = omega (arith, arcs, p.1) in
+    let told = e.2.is a.m (omega arith) ∙ arcs in
     let emptied = cleared_kept a.ws.now c.connected-met.ensures.1 room in
     let d = rw (source_is a.n g.taxa g.group g.two c.lowest.ensures.0 c.single-s.ensures) at c.connected-met.ensures in (
       divided_free g e.0 e.1 a.ws.now network room d.0 d.1 c.difference-off.ensures c.lowest-then-off-gt0.ensures.0 c.lowest-then-off-gt0.ensures.2,
@@ -54,8 +54,8 @@ returns c =
     let e = c.network_of.ensures in
     -- The places are as many as the group's network has arcs.
     let arcs = arcs_are g e.0 e.1 in
-    let room : sizes a.m (nth c.network_of.new.joined) ≤ length a.ws.now = omega (arith, arcs, p.1) in
-    let told = c.offsets_of.ensures.is a.m (omega arith) ∙ arcs in
+    let room : sizes a.m (nth c.network_of.new.lists.joined) ≤ length a.ws.now = omega (arith, arcs, p.1) in
+    let told = e.2.is a.m (omega arith) ∙ arcs in
     let emptied = cleared_kept a.ws.now c.connected-met.ensures.1 room in
     -- What ties the taxa went behind the limits, which are as they were.
     let still = limits_still g.columns c.ties_of.ensures.2 e.1 in

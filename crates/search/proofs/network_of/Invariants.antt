@@ -17,7 +17,7 @@ limit_at weights planes zeros group e = nth weights e * mass 64 (multiplicity_in
 
 abbrev pub invariant-loop-c : goal.invariant-loop-c
 invariant-loop-c l =
-    (l.c ≤ l.m) × Table 256 (joined_at l.ones l.zeros l.group) l.joined l.c × Table 320 (limit_at l.weights l.planes l.zeros l.group) l.limits l.c
+    (l.c ≤ l.m) × Table 256 (joined_at l.ones l.zeros l.group) l.lists.joined l.c × Table 320 (limit_at l.weights l.planes l.zeros l.group) l.lists.limits l.c
 
 abbrev pub decreases-loop-c : goal.decreases-loop-c
 decreases-loop-c l = l.m - l.c

@@ -1,9 +1,11 @@
 -- What the files beside this one say of lists, said of a `Network`.
-use Rattle.std.specs.Prelude.{List, ℕ, ◌≤◌, ℤ, length}
-use Rattle.taxa.specs.Sets.{sizes, low}
+use Rattle.std.specs.Prelude.{List, ℕ, ◌+◌, ◌-◌, ◌*◌, ◌≤◌, ◌<◌, min, max, ℤ, length}
+use Rattle.taxa.specs.Sets.{sizes, low, multiplicity_in}
 use Rattle.search.specs.Workspace as workspace
+use Rattle.search.specs.Workspace.{outs, inns}
 use Rattle.search.specs.Search.{nth}
 use Rattle.search.specs.declared.networks.Network.{Network}
+use Rattle.search.specs.inner.Places as places-in
 use Rattle.search.specs.inner.Network as network
 use Rattle.search.specs.inner.Reaching as reaching
 use Rattle.search.specs.inner.Flows as flows
@@ -25,9 +27,23 @@ Kept net ws ws' = workspace.Kept (places net) ws ws'
 abbrev pub Ready : Network → List ℤ → List ℕ → Type 0
 Ready net ws U = network.Ready net.weights.now net.planes.now net.joined.now net.limits.now net.offsets.now net.n net.m ws U
 
+-- What column c joins, and where its places start.
+abbrev pub IsColumn : Network → ℕ → ℕ → ℕ → Type 0
+IsColumn net c joined offset = places-in.IsColumn (nth net.joined.now) c joined offset × (offset < 65536)
+
 -- What taxon i finds at column c.
-abbrev pub IsGate : Network → List ℕ → ℕ → ℕ → ℕ → ℕ → ℕ → ℕ → ℕ → Type 0
-IsGate net U c i out inn weight sends free = reaching.IsGate net.weights.now net.planes.now net.limits.now U c i out inn weight sends free
+abbrev pub IsGate : Network → List ℤ → List ℕ → ℕ → ℕ → ℕ → ℕ → ℕ → Type 0
+IsGate net ws U c i weight sends free =
+    reaching.IsGate net.weights.now net.planes.now net.limits.now U c i (outs ws (nth net.joined.now) c i) (inns ws (nth net.joined.now) c i) weight sends free
+
+-- What a hop to taxon j carries from one that finds that.
+abbrev pub offered : Network → List ℤ → ℕ → ℕ → ℕ → ℕ → ℕ → ℕ
+offered net ws c j weight sends free =
+    min (min sends (weight * multiplicity_in net.planes.now j + outs ws (nth net.joined.now) c j - inns ws (nth net.joined.now) c j)) (max free (outs ws (nth net.joined.now) c j))
+
+-- What a hop from i to j through column c carries.
+abbrev pub carried : Network → List ℤ → ℕ → ℕ → ℕ → ℕ
+carried net ws c i j = reaching.carried net.weights.now net.planes.now net.joined.now net.limits.now net.n ws c i j
 
 -- A hop from i leads wherever one from a taxon of x leads.
 abbrev pub Leads : Network → List ℤ → ℕ → ℕ → ℕ → Type 0

@@ -22,10 +22,6 @@ planes_in-planes-requires c =
     let bytes : File c.args.file.now = record { byte = λ i. omega (arith, c.type_inv.file i) } in
     taken_multiplied bytes c.requires.0.taken
 
--- What is cleared is there.
-pub clear-requires : goal.clear-requires
-clear-requires c = let pre = c.requires in omega (arith, pre.0.long, pre.3)
-
 -- The search of the group uses no more numbers than were cleared.
 pub divide-requires : goal.divide-requires
 divide-requires c =

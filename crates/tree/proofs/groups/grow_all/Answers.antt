@@ -14,12 +14,3 @@ grow-requires c =
       );
       room = p.room;
     })
-
-pub returns : goal.returns
-returns c = rw (← c.all.ensures) c.grow.ensures
-
-pub overflow_cast-n : goal.overflow_cast-n
-overflow_cast-n c = omega (arith, c.requires.ready.loaded.taxa)
-
-pub all-requires : goal.all-requires
-all-requires c = c.requires.ready.loaded.taxa

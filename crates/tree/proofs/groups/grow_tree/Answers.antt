@@ -1,7 +1,6 @@
 -- `tree::groups::grow_tree` meets its contract: the columns loaded, the workspace cleared, the walk from all taxa, its groups put in order.
 use native.Mathlib.Omega.{arith}
-use mathlib.Core.Path.{◌≡◌, refl, sym, ◌∙◌}
-use lib.Seq.{length-take-le}
+use mathlib.Core.Path.{◌≡◌, refl, ◌∙◌}
 use Rattle.record.specs.Bytes.{File}
 use Rattle.taxa.specs.Sets.{multiplicity, multiplicity_in}
 use Rattle.matrix.proofs.Taken.{taken_multiplied}
@@ -20,19 +19,6 @@ load_columns-requires c =
     let f : File c.args.file.now = record { byte = λ i. omega (arith, c.type_inv.file i) } in
     let few = few_columns f c.requires.0.taken in
     (can_load f c.requires.0.taken refl, omega arith, omega arith, omega arith)
-
-pub clear-requires : goal.clear-requires
-clear-requires c = let (b, counted) = c.requires in omega (arith, b.places)
-
-pub slice_bounds-weights-end : goal.slice_bounds-weights-end
-slice_bounds-weights-end c =
-    let f : File c.args.file.now = record { byte = λ i. omega (arith, c.type_inv.file i) } in
-    omega (arith, few_columns f c.requires.0.taken, c.load_columns.auto.weights)
-
-pub slice_bounds-grow_all-end : goal.slice_bounds-grow_all-end
-slice_bounds-grow_all-end c =
-    let f : File c.args.file.now = record { byte = λ i. omega (arith, c.type_inv.file i) } in
-    sym (length-take-le _ _ (omega (arith, few_columns f c.requires.0.taken, c.load_columns.auto.weights)))
 
 -- ---- what comes back
 

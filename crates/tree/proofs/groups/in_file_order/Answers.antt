@@ -6,15 +6,6 @@ use Rattle.tree.specs.Lists.{listed}
 use Rattle.tree.proofs.Writing.{tree_held}
 use Rattle.tree.proofs.groups.in_file_order.Goals as goal
 
-pub in_order-rising-requires : goal.in_order-rising-requires
-in_order-rising-requires c = let p = c.requires in (p.listed, rw c.from.ensures p.few)
-
-pub total-requires : goal.total-requires
-total-requires c =
-    let p = c.requires in
-    let order = rw c.from.ensures at c.in_order-rising.ensures in
-    (omega (arith, p.few, order.size), rw order.list p.small)
-
 -- The total is that of the groups in file order.
 pub returns : goal.returns
 returns c =

@@ -3,12 +3,12 @@
 use Prim.Native.Nat.{◌-◌, ◌<◌}
 use borrow.Author.Rules.{rules}
 use native.Mathlib.Omega.{arith}
-use mathlib.Core.Path.{refl, ◌∙◌}
+use mathlib.Core.Path.{◌∙◌}
 use lib.ListN.{length, take}
 use lib.Seq.{length-take-le}
 use borrow.Rule.Slice.PartMut.{take_put}
 use Rattle.taxa.specs.Sets.{multiplicity_in, count}
-use Rattle.tree.proofs.Walking.{going_start, going_room, going_next, going_end, one_taxon, still_listed, rest_length, loaded_as, part_ready, turns_on, ready_wide}
+use Rattle.tree.proofs.Walking.{going_room, going_next, going_end, one_taxon, still_listed, rest_length, loaded_as, part_ready, turns_on, ready_wide}
 use Rattle.tree.proofs.Opening.{search_given, listed_parts, listed_fits, parts_ready, parts_clear, parts_fit, grown_group, first_fits}
 use Rattle.tree.proofs.grow.+grow_walk.Goals as goal
 
@@ -71,11 +71,6 @@ grow-returns t c =
     (grown_group ready two handed.0 _ (listed_parts ready two handed.0) put.size (handed.1 ∙ ready.clear.is) put.list walk)
 
 -- ---- walk
-
-pub walk-loop-i-init : goal.walk-loop-i-init
-walk-loop-i-init t c =
-    let p = c.requires in
-    (search rules, p.loaded.0.parallel, refl, refl, refl, going_start _ _ _ _ _, p.loaded.1)
 
 pub walk-grow-requires : goal.walk-grow-requires
 walk-grow-requires t c =

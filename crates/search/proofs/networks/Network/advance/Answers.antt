@@ -4,11 +4,12 @@ use mathlib.Core.Path.{sym, ◌∙◌}
 use Prim.Native.Nat.{◌+◌}
 use Rattle.taxa.specs.Sets.{sizes}
 use Rattle.search.specs.Search.{nth}
-use Rattle.search.specs.inner.Flows.{Advanced}
+use Rattle.search.specs.inner.On as on
 use Rattle.search.specs.inner.Reaching.{width_of}
 use Rattle.search.proofs.Workspace.{kept_none}
 use Rattle.search.proofs.Flows.{under_start, not_root, is_root, under_via, can_hop, under_step, stayed, went, size_small}
 use Rattle.search.proofs.networks.Network.advance.Goals as goal
+use Rattle.search.proofs.networks.Network.advance.Goals.{After-loop-j}
 
 pub returns-then-not-contains : goal.returns-then-not-contains
 returns-then-not-contains c = (
@@ -34,24 +35,14 @@ loop-j-preserved c =
     let root = not_root u c.loop-j-test.true in
     under_step u root (h.0 a.self.now.m) (h.1 a.self.now.m (under_via u root)) h.2
 
-pub overflow_add-result : goal.overflow_add-result
-overflow_add-result c =
-    let a = c.args in
-    let r = c.reach-met in
+-- All of the path has been pushed: the loop ends at a source.
+pushed : (c : After-loop-j) → on.Advanced c.args.self.now c.loop-j.ws c.loop-j.used c.args.sources c.args.t c.args.size (c.args.size + width_of c.reach-met.new.tree c.args.t) c.reach-met.result
+pushed c =
     let met = sym c.contains.ensures ∙ c.if-not-contains.false in
-    -- All of the path has been pushed: the loop ends at a source.
-    let pushed : Advanced a.self.now.weights.now a.self.now.planes.now a.self.now.joined.now a.self.now.limits.now a.self.now.offsets.now a.self.now.n a.self.now.m c.loop-j.ws c.loop-j.used a.sources a.t a.size
-    (a.size + width_of r.new.tree a.t) r.result =
-    went c.loop-j.invariant (is_root c.loop-j.invariant (omega arith)) met (r.ensures.tree.link a.t met c.requires.apart).some in
-    omega (arith, size_small pushed.stage.flowing)
+    went c.loop-j.invariant (is_root c.loop-j.invariant (omega arith)) met (c.reach-met.ensures.tree.link c.args.t met c.requires.apart).some
+
+pub overflow_add-result : goal.overflow_add-result
+overflow_add-result c = omega (arith, size_small (pushed (goal.at.overflow_add-result c).After-loop-j).stage.flowing)
 
 pub returns : goal.returns
-returns c =
-    let a = c.args in
-    let r = c.reach-met in
-    let met = sym c.contains.ensures ∙ c.if-not-contains.false in
-    -- All of the path has been pushed: the loop ends at a source.
-    let pushed : Advanced a.self.now.weights.now a.self.now.planes.now a.self.now.joined.now a.self.now.limits.now a.self.now.offsets.now a.self.now.n a.self.now.m c.loop-j.ws c.loop-j.used a.sources a.t a.size
-    (a.size + width_of r.new.tree a.t) r.result =
-    went c.loop-j.invariant (is_root c.loop-j.invariant (omega arith)) met (r.ensures.tree.link a.t met c.requires.apart).some in
-    (pushed, c.loop-j.invariant.kept)
+returns c = (pushed (goal.at.returns c).After-loop-j, c.loop-j.invariant.kept)

@@ -1,14 +1,18 @@
 -- `Network::attempt` meets its contract: a taxon that is not in the group, one that is tied too fast, one that is parted for less, or for no less.
 use native.Mathlib.Omega.{arith}
-use mathlib.Core.Path.{sym, ap, ◌∙◌}
+use mathlib.Core.Path.{◌≡◌, sym, ap, ◌∙◌}
 use Prim.Native.Nat.{ℕ}
 use Rattle.taxa.specs.Sets.{all, ◌∩◌, sizes}
 use Rattle.taxa.proofs.Members.{in_pos, low_in}
 use Rattle.search.specs.Search.{nth}
-use Rattle.search.specs.inner.Flows.{Largest}
 use Rattle.search.proofs.Workspace.{kept_none}
 use Rattle.search.proofs.Trying.{lower_fits, lower_off, lower_in, tried_tied, tried_better, tried_worse}
 use Rattle.search.proofs.networks.Network.attempt.Goals as goal
+use Rattle.search.proofs.networks.Network.attempt.Goals.{After-largest-cut}
+
+-- The sources are the lower taxa of the group.
+is_lower : (c : After-largest-cut) → c.common-lower.result ≡ c.args.group ∩ all c.args.u
+is_lower c = c.common-lower.ensures ∙ ap (λ (y : ℕ). c.args.group ∩ y) c.all.ensures
 
 pub returns-then-best-self : goal.returns-then-best-self
 returns-then-best-self c =
@@ -19,13 +23,12 @@ returns-then-best-self c =
 pub largest-cut-requires : goal.largest-cut-requires
 largest-cut-requires c =
     let p = c.requires in
-    (p.0, rw (c.common-lower.ensures ∙ ap (λ (y : ℕ). c.args.group ∩ y) c.all.ensures) (lower_fits c.args.group p.3), p.3, rw (c.common-lower.ensures ∙ ap (λ (y : ℕ). c.args.group ∩ y) c.all.ensures) (lower_off c.args.group c.args.u))
+    let lower = c.common-lower.ensures ∙ ap (λ (y : ℕ). c.args.group ∩ y) c.all.ensures in
+    (p.0, rw lower (lower_fits c.args.group p.3), p.3, rw lower (lower_off c.args.group c.args.u))
 
 pub returns-then-cut-best : goal.returns-then-cut-best
 returns-then-cut-best c =
-    let is_largest : (let a = c.args in
-    Largest a.self.now.weights.now a.self.now.planes.now a.self.now.joined.now a.self.now.limits.now a.self.now.n a.self.now.m c.largest-cut.new.ws (a.group ∩ all a.u) a.u a.best.cost c.largest-cut.result.size c.largest-cut.result.side) =
-    rw (c.common-lower.ensures ∙ ap (λ (y : ℕ). c.args.group ∩ y) c.all.ensures) at c.largest-cut.ensures.0 in
+    let is_largest = rw (is_lower (goal.at.returns-then-cut-best c).After-largest-cut) at c.largest-cut.ensures.0 in
     let a = c.args in
     let p = c.requires in
     let s = low_in a.self.now.n (in_pos (record { is = sym c.contains.ensures ∙ c.if-not-contains.false })) p.1 in
@@ -33,7 +36,5 @@ returns-then-cut-best c =
 
 pub returns-else-cut-best : goal.returns-else-cut-best
 returns-else-cut-best c =
-    let is_largest : (let a = c.args in
-    Largest a.self.now.weights.now a.self.now.planes.now a.self.now.joined.now a.self.now.limits.now a.self.now.n a.self.now.m c.largest-cut.new.ws (a.group ∩ all a.u) a.u a.best.cost c.largest-cut.result.size c.largest-cut.result.side) =
-    rw (c.common-lower.ensures ∙ ap (λ (y : ℕ). c.args.group ∩ y) c.all.ensures) at c.largest-cut.ensures.0 in
+    let is_largest = rw (is_lower (goal.at.returns-else-cut-best c).After-largest-cut) at c.largest-cut.ensures.0 in
     (λ bound r. tried_worse r is_largest (omega arith), c.largest-cut.ensures.1)

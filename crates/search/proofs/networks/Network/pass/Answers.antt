@@ -1,9 +1,7 @@
 -- `Network::pass` meets its contract: all that the column joins is met, or nobody sends, or one who leads wherever the others lead.
 use mathlib.Core.Path.{sym, ◌∙◌}
-use Rattle.taxa.specs.Sets.{◌∩◌}
 use Rattle.taxa.proofs.Members.{within_⊆, ∩-⊆, in∩}
 use Rattle.search.specs.Search.{nth}
-use Rattle.search.specs.inner.Reaching.{Leads}
 use Rattle.search.proofs.Reaching.{cross_full, cross_none, cross}
 use Rattle.search.proofs.networks.Network.pass.Goals as goal
 
@@ -20,26 +18,20 @@ sender-i-requires c =
 
 pub returns-then-i-eq-NOBODY : goal.returns-then-i-eq-NOBODY
 returns-then-i-eq-NOBODY c =
-    let leads : (let a = c.args in
-    Leads a.self.now.weights.now a.self.now.planes.now a.self.now.joined.now a.self.now.limits.now a.self.now.n a.ws.now a.c (nth a.self.now.joined.now a.c ∩ a.met) c.sender-i.result) =
-    rw c.common-here.ensures at c.sender-i.ensures in
+    let leads = rw c.common-here.ensures at c.sender-i.ensures in
     let p = c.requires in
-    cross_none p.0 p.2 p.1 (rw c.if-i-eq-NOBODY.true at (leads))
+    cross_none p.0 p.2 p.1 (rw c.if-i-eq-NOBODY.true at leads)
 
 pub through-requires : goal.through-requires
 through-requires c =
-    let leads : (let a = c.args in
-    Leads a.self.now.weights.now a.self.now.planes.now a.self.now.joined.now a.self.now.limits.now a.self.now.n a.ws.now a.c (nth a.self.now.joined.now a.c ∩ a.met) c.sender-i.result) =
-    rw c.common-here.ensures at c.sender-i.ensures in
+    let leads = rw c.common-here.ensures at c.sender-i.ensures in
     let a = c.args in
     let p = c.requires in
-    let h = (in∩ (nth a.self.now.joined.now a.c) a.met).0 (record { is = (leads).held c.if-i-eq-NOBODY.false }) in
+    let h = (in∩ (nth a.self.now.joined.now a.c) a.met).0 (record { is = leads.held c.if-i-eq-NOBODY.false }) in
     (p.0, p.1, p.2, h.0.is, h.1.is)
 
 pub returns : goal.returns
 returns c =
-    let leads : (let a = c.args in
-    Leads a.self.now.weights.now a.self.now.planes.now a.self.now.joined.now a.self.now.limits.now a.self.now.n a.ws.now a.c (nth a.self.now.joined.now a.c ∩ a.met) c.sender-i.result) =
-    rw c.common-here.ensures at c.sender-i.ensures in
+    let leads = rw c.common-here.ensures at c.sender-i.ensures in
     let p = c.requires in
-    cross p.0 p.2 p.1 (leads) c.through.ensures
+    cross p.0 p.2 p.1 leads c.through.ensures

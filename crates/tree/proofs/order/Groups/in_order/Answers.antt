@@ -1,6 +1,6 @@
 -- `order::Groups::in_order` meets its contract. The invariant: what stands are the groups whose lowest taxon is below i, in file order.
 use native.Mathlib.Omega.{arith}
-use mathlib.Core.Path.{◌≡◌, refl}
+use mathlib.Core.Path.{refl}
 use Prim.Native.Nat.{◌+◌}
 use Rattle.method.specs.Tree.{ordered}
 use Rattle.tree.specs.Lists.{listed, first_groups}
@@ -25,9 +25,3 @@ loop-i-preserved c =
     let l = c.loop-i in
     let next = ordered_size l.i (listed c.args.self.now) in
     (omega arith, omega (arith, kept.ensures.size), rw (ordered_next, ← l.invariant.2) kept.ensures.list)
-
-pub returns : goal.returns
-returns c =
-    let l = c.loop-i in
-    let all : l.i ≡ c.args.n = omega arith in
-    rw (← all) (record { size = l.invariant.1; list = l.invariant.2 })

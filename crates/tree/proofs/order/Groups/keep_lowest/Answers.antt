@@ -1,6 +1,6 @@
 -- `order::Groups::keep_lowest` meets its contract. The invariant: what stands is what stood, and what is kept of the groups passed.
 use native.Mathlib.Omega.{arith}
-use mathlib.Core.Path.{◌≡◌, sym, ◌∙◌}
+use mathlib.Core.Path.{sym, ◌∙◌}
 use mathlib.Core.List.{append-nil, append_assoc}
 use Rattle.method.specs.Tree.{kept}
 use Rattle.tree.specs.Lists.{first_groups}
@@ -32,9 +32,3 @@ loop-g-preserved c =
       | else-starts_at w ↦ let here = rw w.if-starts_at.false at more in
           rw w.self-is (omega arith, omega (arith, here), rw (kept_next, ← starts, w.if-starts_at.false, append-nil) l.invariant.2)
     ]
-
-pub returns : goal.returns
-returns c =
-    let l = c.loop-g in
-    let all : l.g ≡ c.args.walked.now.count = omega arith in
-    rw (← all) (record { size = l.invariant.1; list = l.invariant.2 })
