@@ -70,19 +70,19 @@ record Took (file : List ℕ) (space room : ℕ) (r : Result Built Refusal) : Ty
   taken : Ok (shape n m) ≡ checked file
   is : r ≡ taken_of file
 
-took : (file : List ℕ) (space room : ℕ) {size sum : ℕ} → Ok (record { size = size; total = sum }) ≡ built file space room → Took file space room (Ok (record { size = size; total = sum }))
+took : (file : List ℕ) (space room : ℕ) {b : Built} → Ok b ≡ built file space room → Took file space room (Ok b)
 unfolding built answered
-took file space room {size} {sum} e = go (checked file) refl e
+took file space room {b} e = go (checked file) refl e
   where
-    none : {why : Refusal} → Ok (record { size = size; total = sum }) ≡ Err why → Took file space room (Ok (record { size = size; total = sum }))
+    none : {why : Refusal} → ◌≡◌ {A = Result Built Refusal} (Ok b) (Err why) → Took file space room (Ok b)
     none w = absurd (let z : ◌≡◌ {A = ℕ} 0 1 = cc in omega arith)
 
-    tested : (n m : ℕ) → Ok (shape n m) ≡ checked file → (a b : Bool) → Ok (record { size = size; total = sum }) ≡ cond a (Err (refused reason.Workspace 0)) (cond b (Err (refused reason.Room 0)) (taken_of file)) → Took file space room (Ok (record { size = size; total = sum }))
+    tested : (n m : ℕ) → Ok (shape n m) ≡ checked file → (p q : Bool) → Ok b ≡ cond p (Err (refused reason.Workspace 0)) (cond q (Err (refused reason.Room 0)) (taken_of file)) → Took file space room (Ok b)
     tested n m t true b w = none w
     tested n m t false true w = none w
     tested n m t false false w = record { n = n; m = m; taken = t; is = w }
 
-    go : (k : Result Shape Refusal) → k ≡ checked file → Ok (record { size = size; total = sum }) ≡ answered k file space room → Took file space room (Ok (record { size = size; total = sum }))
+    go : (k : Result Shape Refusal) → k ≡ checked file → Ok b ≡ answered k file space room → Took file space room (Ok b)
     go (Err why) t w = none w
     go (Ok it) t w = tested it.n it.m t (ltb space (one_entries (matrix_in file))) (ltb room (room_for it.n it.m)) w
 

@@ -1,6 +1,6 @@
 -- Demand 2, and demand 1's refusals, of document 01's own form of an answer: "the flip list is a lent list of entries, each a column with its raised and lowered
 -- taxa". What is proved of three lists holds of a list of entries, which is read and written as its three lists are.
-use mathlib.Core.Path.{◌≡◌, sym, ap, ◌∙◌}
+use mathlib.Core.Path.{◌≡◌, refl, sym, ap, ◌∙◌}
 use mathlib.Core.Logic.{◌≢◌, ◌↔◌}
 use mathlib.Core.List.{List, ◌++◌}
 use Prim.Native.Nat.{ℕ, ◌≤◌}

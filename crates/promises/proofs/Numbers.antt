@@ -12,7 +12,7 @@ use Rattle.record.proofs.Steps.{either_way}
 use Rattle.matrix.specs.Check as check
 use Rattle.matrix.proofs.Places.{refusal_small}
 use Rattle.answer.specs.declared.Answer.{Answer}
-use Rattle.answer.specs.Content.{Content, content_in, length_of}
+use Rattle.answer.specs.Content.{Content, content_in, length_of, answer_of}
 use Rattle.answer.specs.Reading as reading
 use Rattle.answer.specs.Writing as writing
 use Rattle.answer.proofs.Numbers.{Numbered, file_numbered, read_numbered, write_numbered}
@@ -129,4 +129,4 @@ writing_succeeds {c} {entries} {out} {r = Err why} x =
   where
     go : (p : Passed) → Numbered p → Err why ≡ writing.ended (length_of c) p → 0 < refusal_number why.reason
     go (Ok here) a e = absurd (let z : ◌≡◌ {A = ℕ} 0 1 = cc in omega arith)
-    go (Err other) a e = let same : (refusal_number why.reason) ≡ other.number = cc in omega (arith, a.above refl)
+    go (Err other) a e = let same : refusal_number why.reason ≡ refusal_number other.reason = cc in omega (arith, a.above refl)
