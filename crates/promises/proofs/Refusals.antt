@@ -1,5 +1,5 @@
 -- Demand 1, from the number that is returned: "a refusal returns its number and place, 0 for every other number, and changes no lent memory".
-use mathlib.Core.Path.{◌≡◌, refl, ap, ◌∙◌}
+use mathlib.Core.Path.{◌≡◌, refl}
 use mathlib.Core.List.{List}
 use mathlib.Core.Logic.{◌≢◌}
 use Prim.Native.Nat.{ℕ}
@@ -7,14 +7,13 @@ use lib.IntN.{ℤ}
 use Rattle.matrix.specs.Check as check
 use Rattle.record.specs.declared.refusal.Refusal.{Refusal}
 use Rattle.answer.specs.declared.Answer.{Answer}
-use Rattle.answer.specs.Content.{Content, content_in, answer_of}
+use Rattle.answer.specs.Content.{Content, answer_of}
 use Rattle.answer.specs.Reading as reading
 use Rattle.answer.specs.Writing as writing
 use Rattle.split.specs.Operation as split
 use Rattle.tree.specs.Build as build
 use Rattle.score.specs.Operation as score
 use Rattle.std.specs.Prelude.{Result, Ok, Err}
-use Rattle.record.specs.Records.{Passed}
 use Rattle.matrix.specs.Check.{shape}
 use Rattle.matrix.specs.declared.Shape.{Shape}
 use Rattle.search.specs.declared.Split.{Split}

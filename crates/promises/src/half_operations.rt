@@ -15,7 +15,12 @@ pub fn tree(file: &[u8], workspace: &mut [i32], out: &mut [u8]) -> Result<Built,
 }
 
 // Flips.
-pub fn flips(file: &[u8], tree: &[u8], workspace: &mut [i32], out: &mut [u8]) -> Result<Built, Refusal>
+pub fn flips(
+    file: &[u8],
+    tree: &[u8],
+    workspace: &mut [i32],
+    out: &mut [u8],
+) -> Result<Built, Refusal>
     ensures { GivesFlips file.now tree.now workspace.old out.old result workspace.new out.new }
 {
     tree::flips(file, tree, workspace, out)
