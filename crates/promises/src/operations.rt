@@ -92,14 +92,6 @@ pub fn search(
 {
     let mut lists = Lists::new();
     search::divide(
-        weights,
-        planes,
-        ones,
-        zeros,
-        group,
-        n,
-        m,
-        workspace,
-        &mut lists,
+        weights, planes, ones, zeros, group, n, m, workspace, &mut lists,
     )
 }
