@@ -30,8 +30,8 @@ pub struct Answer {
     pub costs: [u32; 63],
 }
 
-// The operation "read an answer": first all tests, then the lent list is filled. The list stands in three parts here and in `write`, as crate tree keeps its
-// flips; crate entries has document 01's form, one list of entries.
+// The list stands in three parts here and in `write`, as crate tree keeps its flips; crate entries has document 01's form, one list of entries.
+// The operation "read an answer": first all tests, then the lent list is filled.
 pub fn read(
     file: &[u8],
     columns: &mut [u64],
