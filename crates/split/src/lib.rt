@@ -7,24 +7,21 @@ pub mod columns;
 pub mod group;
 mod parts;
 
-ghost use Rattle.std.specs.Prelude.{◌≡◌, ◌≤◌, length};
+ghost use Rattle.std.specs.Prelude.{◌≡◌, length};
 ghost use Rattle.taxa.specs.Sets.{multiplicity, multiplicity_in, Tabled};
 ghost use Rattle.matrix.specs.Matrix.{multiplicities_in};
 ghost use Rattle.matrix.specs.inner.Planes.{Multiplied};
 ghost use Rattle.matrix.specs.Check.{checked};
 ghost use Rattle.matrix.specs.declared.Checked.TheVariants as checks;
 ghost use Rattle.method.specs.Tree.{one_entries};
-ghost use Rattle.method.specs.Flow.{arc_count};
-ghost use Rattle.search.specs.Search.{cols_of, Given};
 ghost use Rattle.search.specs.Workspace.{cleared};
-ghost use Rattle.split.specs.Groups.{IsSplit};
 ghost use Rattle.split.specs.inner.Handing.{Parallel, Splittable};
 ghost use Rattle.split.specs.Columns.{matrix_in};
 ghost use Rattle.split.specs.Operation.{split_of, answered, workspace_after, Splits};
 
 use matrix::Checked;
 use record::Refusal;
-use search::{Lists, Split};
+use search::Lists;
 
 // What the split answers: the division's cost, its side A and the taxon t, or the refusal.
 #[derive(Clone, Copy)]
@@ -40,29 +37,6 @@ fn planes_in(file: &[u8]) -> [u64; 72]
     ensures { (multiplicity_in result ≡ multiplicity (multiplicities_in file.now)) × Tabled result }
 {
     matrix::planes_in(file)
-}
-
-// The division of loaded columns, with the search's lists, which stand on the stack for no longer: not inlined either.
-#[inline(never)]
-fn divide(
-    weights: &[u16],
-    planes: &[u64; 72],
-    ones: &[u64],
-    zeros: &[u64],
-    group: u64,
-    n: usize,
-    m: usize,
-    workspace: &mut [i32],
-) -> Split
-    requires { Given weights.now planes.now ones.now zeros.now group n m
-        × (arc_count m (cols_of weights.now ones.now zeros.now) group ≤ length workspace.old) }
-    ensures { IsSplit (multiplicity_in planes.now) m (cols_of weights.now ones.now zeros.now) group result.cost result.side result.other
-        × (workspace.new ≡ cleared (arc_count m (cols_of weights.now ones.now zeros.now) group) workspace.old) }
-{
-    let mut lists = Lists::new();
-    group::divide(
-        weights, planes, ones, zeros, group, n, m, workspace, &mut lists,
-    )
 }
 
 // The split of a group that nothing refuses; the three slices are room for the file's columns. The numbers that document 02's C-13 lends are cleared first,
@@ -87,7 +61,10 @@ fn split_loaded(
     columns::load(file, weights, ones, zeros);
     let planes = planes_in(file);
     search::net::clear(workspace, needed);
-    let found = divide(weights, &planes, ones, zeros, group, n, m, workspace);
+    let mut lists = Lists::new();
+    let found = group::divide(
+        weights, &planes, ones, zeros, group, n, m, workspace, &mut lists,
+    );
     Divided::Taken(found.cost, found.side, found.other as u32)
 }
 
