@@ -8,9 +8,6 @@ pub mod group;
 mod parts;
 
 ghost use Rattle.std.specs.Prelude.{◌≡◌, length};
-ghost use Rattle.taxa.specs.Sets.{multiplicity, multiplicity_in, Tabled};
-ghost use Rattle.matrix.specs.Matrix.{multiplicities_in};
-ghost use Rattle.matrix.specs.inner.Planes.{Multiplied};
 ghost use Rattle.matrix.specs.Check.{shape, checked};
 ghost use Rattle.method.specs.Tree.{one_entries};
 ghost use Rattle.search.specs.Workspace.{cleared};
@@ -21,15 +18,6 @@ ghost use Rattle.split.specs.Operation.{split_of, answered, workspace_after, Spl
 use matrix::Shape;
 use record::refusal::{Reason, Refusal};
 use search::{Lists, Split};
-
-// The multiplicities of a file that the check takes. Not inlined: its caller would hold them twice, and a split has little stack to spare.
-#[inline(never)]
-fn planes_in(file: &[u8]) -> [u64; 72]
-    requires { Multiplied file.now }
-    ensures { (multiplicity_in result ≡ multiplicity (multiplicities_in file.now)) × Tabled result }
-{
-    matrix::planes_in(file)
-}
 
 // The split of a group that nothing refuses; the three slices are room for the file's columns. The numbers that document 02's C-13 lends are cleared first,
 // and the search of the group uses no others.
@@ -51,7 +39,7 @@ fn split_loaded(
     ensures { (Ok result ≡ split_of (matrix_in file.now) group) × (workspace.new ≡ cleared needed workspace.old) }
 {
     columns::load(file, weights, ones, zeros);
-    let planes = planes_in(file);
+    let planes = matrix::planes_in(file);
     search::net::clear(workspace, needed);
     let mut lists = Lists::new();
     group::divide(
