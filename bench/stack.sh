@@ -14,28 +14,22 @@ prove outline
 
 alone build_alone "record tree" <<'RT'
 #![tactic(auto)]
-use tree::Built;
-
 #[unsafe(no_mangle)]
 pub extern "C" fn build_alone(file: &[u8], workspace: &mut [i32], out: &mut [u8]) -> u64 {
-    let found = tree::build(file, workspace, out);
-    match found {
-        Built::Taken(size, _total) => size as u64,
-        Built::Refused(_why) => 0,
+    match tree::build(file, workspace, out) {
+        Ok(built) => built.size as u64,
+        Err(_) => 0,
     }
 }
 RT
 
 alone split_alone "record split" <<'RT'
 #![tactic(auto)]
-use split::Divided;
-
 #[unsafe(no_mangle)]
 pub extern "C" fn split_alone(file: &[u8], group: u64, workspace: &mut [i32]) -> u64 {
-    let found = split::split(file, group, workspace);
-    match found {
-        Divided::Taken(_cost, side, _t) => side,
-        Divided::Refused(_why) => 0,
+    match split::split(file, group, workspace) {
+        Ok(found) => found.side,
+        Err(_) => 0,
     }
 }
 RT

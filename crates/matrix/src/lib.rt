@@ -191,12 +191,12 @@ fn multiplicity_count(file: &[u8]) -> usize
     }
 }
 
-// The multiplicities of a file that the check takes.
-pub fn planes_in(file: &[u8]) -> [u64; 72]
+// The multiplicities of a file that the check takes go into lent room. (Given back as a value they would stand on the stack twice: bench/stack.sh.)
+pub fn load_planes(file: &[u8], planes: &mut [u64; 72])
     requires { Multiplied file.now }
-    ensures { (multiplicity_in result ≡ multiplicity (multiplicities_in file.now)) × Tabled result }
+    ensures { (multiplicity_in planes.new ≡ multiplicity (multiplicities_in file.now)) × Tabled planes.new }
 {
-    taxa::planes_of(&file[12..12 + multiplicity_count(file)])
+    taxa::put_planes(&file[12..12 + multiplicity_count(file)], planes);
 }
 
 // Where the record of the first column starts.

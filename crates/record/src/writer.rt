@@ -5,12 +5,14 @@ ghost use Rattle.record.specs.Records.{opening_of};
 
 use super::Record;
 
-// Bytes as they are.
+// Bytes as they are. (By `copy_from_slice` C's memmove does it, whose first call takes 3 KB of stack, more than reading trees may: bench/stack.sh.)
 pub fn put_bytes(out: &mut [u8], bytes: &[u8])
     requires { length bytes.now ≤ length out.old }
     ensures { out.new ≡ over bytes.now 0 out.old }
 {
-    out[..bytes.len()].copy_from_slice(bytes);
+    for i in 0..bytes.len() {
+        out[i] = bytes[i];
+    }
 }
 
 pub fn put16(out: &mut [u8], v: u16)

@@ -176,7 +176,8 @@ fn score_read(matrix: &[u8], answer: &[u8], n: u16, m: u16) -> Result<Sums, Refu
     if value.m != m {
         return Err(Reason::Differ.at(0));
     }
-    let planes = matrix::planes_in(matrix);
+    let mut planes = [0u64; 72];
+    matrix::load_planes(matrix, &mut planes);
     let groups = value.taxa;
     let sums = score_columns(
         &planes,

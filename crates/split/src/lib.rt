@@ -39,7 +39,8 @@ fn split_loaded(
     ensures { (Ok result ≡ split_of (matrix_in file.now) group) × (workspace.new ≡ cleared needed workspace.old) }
 {
     columns::load(file, weights, ones, zeros);
-    let planes = matrix::planes_in(file);
+    let mut planes = [0u64; 72];
+    matrix::load_planes(file, &mut planes);
     search::net::clear(workspace, needed);
     let mut lists = Lists::new();
     group::divide(

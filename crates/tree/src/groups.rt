@@ -91,7 +91,8 @@ pub fn grow_tree(
         × (workspace.new ≡ cleared (one_entries (matrix_in file.now)) workspace.old) }
 {
     let columns = m as usize;
-    let planes = matrix::planes_in(file);
+    let mut planes = [0u64; 72];
+    matrix::load_planes(file, &mut planes);
     let mut weights = [0u16; 256];
     load_columns(file, columns, &mut weights, ones, zeros);
     net::clear(workspace, needed);

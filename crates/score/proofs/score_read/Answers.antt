@@ -18,17 +18,17 @@ returns-then-value-n c = ap Err c.at.ensures ∙ other_taxa _ _ _ _ c.answer_in-
 pub returns-then-value-m : goal.returns-then-value-m
 returns-then-value-m c = ap Err c.at-then-value-m.ensures ∙ other_columns _ _ _ _ c.answer_in-value.ensures (omega arith) (omega arith)
 
-pub planes_in-planes-requires : goal.planes_in-planes-requires
-planes_in-planes-requires c = taken_multiplied (record { byte = λ i. omega (arith, c.type_inv.matrix i) }) c.requires.taken
+pub load_planes-requires : goal.load_planes-requires
+load_planes-requires c = taken_multiplied (record { byte = λ i. omega (arith, c.type_inv.matrix i) }) c.requires.taken
 
 pub score_columns-sums-requires : goal.score_columns-sums-requires
 score_columns-sums-requires c =
     let f : File c.args.matrix.now = record { byte = λ i. omega (arith, c.type_inv.matrix i) } in
     let taken = c.requires.taken in
     let l = laid _ c.requires.passes in
-    (omega (arith, taken_columns f taken, (taken_legal f taken).columns_fit), omega (arith, taken_length f taken), omega (arith, taken_taxa f taken, (taken_legal f taken).taxa_fit), groups_placed _ c.answer_in-value.ensures (omega (arith, l.head_kept.few, l.head_kept.fewer)), rw c.planes_in-planes.ensures.0 (taken_light f taken))
+    (omega (arith, taken_columns f taken, (taken_legal f taken).columns_fit), omega (arith, taken_length f taken), omega (arith, taken_taxa f taken, (taken_legal f taken).taxa_fit), groups_placed _ c.answer_in-value.ensures (omega (arith, l.head_kept.few, l.head_kept.fewer)), rw c.load_planes.ensures.0 (taken_light f taken))
 
 pub returns : goal.returns
 returns c =
     let sums = rw c.from.ensures at c.score_columns-sums.ensures in
-    taken_row _ _ _ _ c.answer_in-value.ensures c.planes_in-planes.ensures.0 (omega (arith, c.if-value-n.false)) (omega (arith, c.if-value-m.false)) sums.raised.0 sums.lowered.0
+    taken_row _ _ _ _ c.answer_in-value.ensures c.load_planes.ensures.0 (omega (arith, c.if-value-n.false)) (omega (arith, c.if-value-m.false)) sums.raised.0 sums.lowered.0

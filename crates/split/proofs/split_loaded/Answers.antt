@@ -17,8 +17,8 @@ load-requires c =
     let fits = can_load bytes pre.0.taken pre.2 in
     (pre.1, fits.0, fits.1)
 
-pub planes_in-planes-requires : goal.planes_in-planes-requires
-planes_in-planes-requires c =
+pub load_planes-requires : goal.load_planes-requires
+load_planes-requires c =
     let bytes : File c.args.file.now = record { byte = λ i. omega (arith, c.type_inv.file i) } in
     taken_multiplied bytes c.requires.0.taken
 
@@ -29,7 +29,7 @@ divide-requires c =
     let bytes : File c.args.file.now = record { byte = λ i. omega (arith, c.type_inv.file i) } in
     let few_arcs : arc_count c.args.m (cols_of c.load.new.weights c.load.new.ones c.load.new.zeros) c.args.group ≤ c.args.needed =
     arcs_fit bytes pre.0 pre.3 c.load.ensures.0 in
-    (given bytes pre.0 c.load.ensures.1 (c.load.ensures.2 ∙ pre.2) (read_positive bytes pre.0.taken _ c.planes_in-planes.ensures.0) c.planes_in-planes.ensures.1, omega (arith, few_arcs, pre.0.long, pre.3))
+    (given bytes pre.0 c.load.ensures.1 (c.load.ensures.2 ∙ pre.2) (read_positive bytes pre.0.taken _ c.load_planes.ensures.0) c.load_planes.ensures.1, omega (arith, few_arcs, pre.0.long, pre.3))
 
 pub returns : goal.returns
 returns c =
@@ -37,4 +37,4 @@ returns c =
     let bytes : File c.args.file.now = record { byte = λ i. omega (arith, c.type_inv.file i) } in
     let few_arcs : arc_count c.args.m (cols_of c.load.new.weights c.load.new.ones c.load.new.zeros) c.args.group ≤ c.args.needed =
     arcs_fit bytes pre.0 pre.3 c.load.ensures.0 in
-    (found bytes pre.0 c.divide.ensures.0 (read_multiplicities bytes pre.0.taken _ c.planes_in-planes.ensures.0) c.load.ensures.0, still_cleared _ few_arcs (omega (arith, pre.0.long, pre.3)) c.clear.ensures c.divide.ensures.1)
+    (found bytes pre.0 c.divide.ensures.0 (read_multiplicities bytes pre.0.taken _ c.load_planes.ensures.0) c.load.ensures.0, still_cleared _ few_arcs (omega (arith, pre.0.long, pre.3)) c.clear.ensures c.divide.ensures.1)

@@ -1,5 +1,5 @@
--- `taxa::planes_of` meets its contract: each place that was filled has what it should.
-use mathlib.Core.Path.{◌≡◌, refl, sym, ap, subst, ◌∙◌}
+-- `taxa::put_planes` meets its contract: each place that was filled has what it should.
+use mathlib.Core.Path.{◌≡◌, sym, ap, subst, ◌∙◌}
 use Prim.Native.Nat.{ℕ, ◌+◌}
 use native.Mathlib.Decide.{dec_lt}
 use native.Mathlib.Omega.{arith}
@@ -8,10 +8,10 @@ use lib.Seq.{get_or-set_same, get_or-set_other}
 use Rattle.taxa.specs.Sets.{multiplicity}
 use Rattle.taxa.specs.inner.Planes.{Placed}
 use Rattle.taxa.proofs.Planes.{planes_hold}
-use Rattle.taxa.proofs.planes_of.Goals as goal
+use Rattle.taxa.proofs.put_planes.Goals as goal
 
 pub loop-p-init : goal.loop-p-init
-loop-p-init c = (omega arith, refl, λ x b. absurd (omega arith))
+loop-p-init c = (omega arith, omega arith, λ x b. absurd (omega arith))
 
 pub loop-p-preserved : goal.loop-p-preserved
 loop-p-preserved c =
