@@ -91,28 +91,22 @@ pub struct Column {
     pub offset: usize,
 }
 
+pub fn column_at(joined: &[u64; 256], offsets: &[u16; 257], c: usize) -> Column
+    requires { (c < 256) × (nth offsets.now c ≡ sizes c (nth joined.now)) }
+    ensures { IsColumn (nth joined.now) c result.joined result.offset × (result.offset < 65536) }
+{
+    Column {
+        joined: joined[c],
+        offset: usize::from(offsets[c]),
+    }
+}
+
 impl Network<'_> {
     pub fn column_at(&self, c: usize) -> Column
         requires { c < self.now.m }
         ensures { on.IsColumn self.now c result.joined result.offset }
     {
-        Column {
-            joined: self.joined[c],
-            offset: usize::from(self.offsets[c]),
-        }
-    }
-
-    // d more from taxon i to taxon j through column c.
-    pub fn hop(&self, ws: &mut [i32], c: usize, i: usize, j: usize, d: u32)
-        requires { CanHop self.now.joined.now self.now.offsets.now ws.old c i j d × (c < self.now.m) }
-        ensures { ((n m : ℕ) → n ≤ 64 → Hopped n m (outs ws.old (nth self.now.joined.now)) (inns ws.old (nth self.now.joined.now))
-            (outs ws.new (nth self.now.joined.now)) (inns ws.new (nth self.now.joined.now)) c i j d)
-            × ((m : ℕ) → c < m → Kept (sizes m (nth self.now.joined.now)) ws.old ws.new) }
-    {
-        let column = self.column_at(c);
-        let a = slot(column, i);
-        let b = slot(column, j);
-        send(ws, a, b, d);
+        column_at(self.joined, self.offsets, c)
     }
 }
 
@@ -141,4 +135,25 @@ pub fn flow(ws: &[i32], column: Column, i: usize) -> NetFlow
         out: out_of(f),
         inn: inn_of(f),
     }
+}
+
+// d more from taxon i to taxon j through column c.
+pub fn hop(
+    ws: &mut [i32],
+    joined: &[u64; 256],
+    offsets: &[u16; 257],
+    c: usize,
+    i: usize,
+    j: usize,
+    d: u32,
+)
+    requires { CanHop joined.now offsets.now ws.old c i j d }
+    ensures { ((n m : ℕ) → n ≤ 64 → Hopped n m (outs ws.old (nth joined.now)) (inns ws.old (nth joined.now))
+        (outs ws.new (nth joined.now)) (inns ws.new (nth joined.now)) c i j d)
+        × ((m : ℕ) → c < m → Kept (sizes m (nth joined.now)) ws.old ws.new) }
+{
+    let column = column_at(joined, offsets, c);
+    let a = slot(column, i);
+    let b = slot(column, j);
+    send(ws, a, b, d);
 }

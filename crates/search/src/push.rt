@@ -55,7 +55,7 @@ impl Network<'_> {
     {
         let column = self.column_at(c);
         let before = net::flow(ws, column, i).out + net::flow(ws, column, j).out;
-        self.hop(ws, c, i, j, d);
+        net::hop(ws, self.joined, self.offsets, c, i, j, d);
         let after = net::flow(ws, column, i).out + net::flow(ws, column, j).out;
         used[c] = used[c] + after - before;
     }
