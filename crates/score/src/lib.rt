@@ -3,7 +3,8 @@
 // assigns. Flips count the specimens that their taxa stand for. Rests on taxa, record, matrix and answer.
 #![tactic(auto)]
 
-ghost use Rattle.std.specs.Prelude.{◌≡◌, ℕ, ◌*◌, ◌≤◌, ◌<◌, ◌+◌, length, get_or};
+ghost use Rattle.std.specs.Prelude.{◌≡◌, List, ℕ, ◌*◌, ◌≤◌, ◌<◌, ◌+◌, length, get_or};
+ghost use Rattle.std.specs.Iterator.{Drains, IsFinite};
 ghost use Rattle.taxa.specs.Sets.{multiplicity_in};
 ghost use Rattle.matrix.specs.Matrix.{columns_at, column_in};
 ghost use Rattle.score.specs.Score as score;
@@ -77,36 +78,27 @@ fn nearest_of(planes: &[u64; 72], it: Column, node: u64, best: u64) -> u64
     }
 }
 
-// The leaf that counts, of the first n taxa.
-fn nearest_leaf(planes: &[u64; 72], it: Column, n: u32) -> u64
-    requires { n ≤ 64 }
-    ensures { result ≡ score.nearest_in (multiplicity_in planes.now) it score.leaf n (score.leaf 0) }
+// The node that counts, of the one that did so far and all those that follow.
+fn nearest_among<I: Iterator<Item = u64>>(planes: &[u64; 72], it: Column, nodes: I, so_far: u64) -> u64
+    requires can { I.can_next nodes }
+    requires ends { IsFinite (I.remaining nodes) }
+    ensures { (xs : List ℕ) × Drains I.next_gives nodes xs
+        × (result ≡ score.nearest_in (multiplicity_in planes.now) it (λ i. get_or xs i 0) (length xs) so_far) }
 {
-    let mut best: u64 = 1;
-    for i in 0..n {
-        best = nearest_of(planes, it, taxa::single(i), best);
+    let mut best = so_far;
+    for node in nodes {
+        best = nearest_of(planes, it, node, best);
     }
     best
 }
 
-// The node that counts: of the leaf that does, and the first k groups.
-fn nearest_node(planes: &[u64; 72], it: Column, groups: &[u64], k: usize, leaf: u64) -> u64
-    requires { k ≤ length groups.now }
-    ensures { result ≡ score.nearest_in (multiplicity_in planes.now) it (λ i. get_or groups.now i 0) k leaf }
-{
-    let mut best = leaf;
-    for &group in &groups[..k] {
-        best = nearest_of(planes, it, group, best);
-    }
-    best
-}
-
-// The node of the tree that counts for a column.
+// The node of the tree that counts for a column: of the leaves, then the first k groups.
 fn node_for(planes: &[u64; 72], it: Column, n: u32, groups: &[u64], k: usize) -> u64
     requires { (n ≤ 64) × (k ≤ length groups.now) }
     ensures { result ≡ score.node_for (multiplicity_in planes.now) n groups.now k it }
 {
-    nearest_node(planes, it, groups, k, nearest_leaf(planes, it, n))
+    let leaf = nearest_among(planes, it, (0..n).map(taxa::single), taxa::single(0));
+    nearest_among(planes, it, groups[..k].iter().copied(), leaf)
 }
 
 // A count of flips times the column's weight: at most 127 times 65,535.
