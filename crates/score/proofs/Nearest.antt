@@ -40,18 +40,17 @@ pub one_more : (μ : ℕ → ℕ) (c : Column) (cluster : ℕ → ℕ) (k best :
 unfolding nearest_in
 one_more μ c cluster k best = rw add-one
 
--- Nothing but the clusters 0 to k - 1 matters.
-pub same_clusters : (μ : ℕ → ℕ) (c : Column) {cluster other : ℕ → ℕ} (k best : ℕ) → ((i : ℕ) → i < k → cluster i ≡ other i)
-    → nearest_in μ c cluster k best ≡ nearest_in μ c other k best
+-- Clusters that are the same below k have the same node that counts.
+pub nearest_same : (μ : ℕ → ℕ) (c : Column) (f g : ℕ → ℕ) (k best : ℕ) → ((i : ℕ) → i < k → f i ≡ g i) → nearest_in μ c f k best ≡ nearest_in μ c g k best
 unfolding nearest_in
-same_clusters μ c zero best e = refl
-same_clusters μ c (suc k) best e = rw (e k (omega arith), same_clusters μ c k best (λ i l. e i (omega arith))) refl
+nearest_same μ c f g zero best e = refl
+nearest_same μ c f g (suc k) best e = rw (nearest_same μ c f g k best (λ i l. e i (omega arith)), e k (omega arith))
 
 -- One node more in a list of them.
 pub one_joined : (μ : ℕ → ℕ) (c : Column) (nodes : List ℕ) (node best : ℕ)
     → nearest_in μ c (λ i. get_or (nodes ++ node ∷ []) i 0) (length (nodes ++ node ∷ [])) best ≡ nearest μ c node (nearest_in μ c (λ i. get_or nodes i 0) (length nodes) best)
 one_joined μ c nodes node best =
-    rw (length-append nodes (node ∷ []), one_more, get_or_push nodes node 0 _ refl, same_clusters μ c (length nodes) best (get_or_append_left nodes (node ∷ []) 0))
+    rw (length-append nodes (node ∷ []), one_more, get_or_push nodes node 0 _ refl, nearest_same μ c (λ i. get_or (nodes ++ node ∷ []) i 0) (λ i. get_or nodes i 0) (length nodes) best (get_or_append_left nodes (node ∷ []) 0))
     refl
 
 -- What went through the nodes that an iterator gave went through the list that it yields.

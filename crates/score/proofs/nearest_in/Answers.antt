@@ -1,8 +1,8 @@
--- `score::nearest_among` meets its contract. The invariant: `best` counts among those that came.
+-- `score::nearest_in` meets its contract. The invariant: `best` counts among those that came.
 use mathlib.Core.Path.{refl}
 use Rattle.score.specs.Score.{nearest_in}
 use Rattle.score.proofs.Nearest.{one_joined}
-use Rattle.score.proofs.nearest_among.Goals as goal
+use Rattle.score.proofs.nearest_in.Goals as goal
 
 pub loop-node-init : goal.loop-node-init
 unfolding nearest_in
