@@ -2,15 +2,20 @@
 -- (`same_flips`): so the score is what document 01 says, and only that.
 use mathlib.Core.Path.{◌≡◌, refl, sym, ap, ◌∙◌}
 use mathlib.Core.Bool.{Bool, true, false, ◌||◌, ◌&&◌, cond}
-use mathlib.Core.List.{List}
+use mathlib.Core.List.{List, [], ◌∷◌, ◌++◌}
 use Prim.Native.Nat.{ℕ, zero, suc, ◌+◌, ◌/◌, ◌≤◌, ◌<◌}
 use native.Mathlib.Nat.{mul-div_cancel_left}
 use native.Mathlib.Numerals.{add-one}
 use native.Mathlib.Omega.{arith}
 use lib.Dec.{ltb, eqb}
-use lib.ListN.{get_or}
+use lib.ListN.{length, get_or}
 use borrow.Author.Tests.{lt-ltb, le-ltb, eq-eqb, ne_eqb, ltb-true, ltb-false, eqb-true, eqb-false}
 use borrow.Author.Count.{below_more}
+use Rattle.std.specs.Prelude.{Option, Ok}
+use Rattle.std.specs.Iterator.{Drains}
+use Rattle.std.proofs.lemmas.Iterator.{YieldsList}
+use Rattle.std.proofs.lemmas.Iterator.Adapters.{fact_from_collect}
+use Rattle.std.proofs.lemmas.List.{length-append, get_or_append_left, get_or_push}
 use Rattle.record.proofs.Steps.{either_way}
 use Rattle.matrix.specs.declared.Column.{Column}
 use Rattle.score.specs.Score.{raises_at, lowers_at, leaf, Node, at_leaf, at_group, distance, Counts, node_for, nearer, nearest, nearest_in}
@@ -34,6 +39,26 @@ module _ (μ : ℕ → ℕ) (c : Column) (X Y : ℕ) where
 pub one_more : (μ : ℕ → ℕ) (c : Column) (cluster : ℕ → ℕ) (k best : ℕ) → nearest_in μ c cluster (k + 1) best ≡ nearest μ c (cluster k) (nearest_in μ c cluster k best)
 unfolding nearest_in
 one_more μ c cluster k best = rw add-one
+
+-- Clusters that are the same below k have the same node that counts.
+pub nearest_same : (μ : ℕ → ℕ) (c : Column) (f g : ℕ → ℕ) (k best : ℕ) → ((i : ℕ) → i < k → f i ≡ g i) → nearest_in μ c f k best ≡ nearest_in μ c g k best
+unfolding nearest_in
+nearest_same μ c f g zero best e = refl
+nearest_same μ c f g (suc k) best e = rw (nearest_same μ c f g k best (λ i l. e i (omega arith)), e k (omega arith))
+
+-- One node more in a list of them.
+pub one_joined : (μ : ℕ → ℕ) (c : Column) (nodes : List ℕ) (node best : ℕ)
+    → nearest_in μ c (λ i. get_or (nodes ++ node ∷ []) i 0) (length (nodes ++ node ∷ [])) best ≡ nearest μ c node (nearest_in μ c (λ i. get_or nodes i 0) (length nodes) best)
+one_joined μ c nodes node best =
+    rw (length-append nodes (node ∷ []), one_more, get_or_push nodes node 0 _ refl, nearest_same μ c (λ i. get_or (nodes ++ node ∷ []) i 0) (λ i. get_or nodes i 0) (length nodes) best (get_or_append_left nodes (node ∷ []) 0))
+    refl
+
+-- What went through the nodes that an iterator gave went through the list that it yields.
+pub gone_through : {S : Type 0} {steps : S → Option ℕ → S → Type 0} {s : S} {nodes : List ℕ} (μ : ℕ → ℕ) (c : Column) (best : ℕ) {r : ℕ}
+    → (xs : List ℕ) × Drains steps s xs × (r ≡ nearest_in μ c (λ i. get_or xs i 0) (length xs) best)
+    → YieldsList steps (λ x. x) s nodes → r ≡ nearest_in μ c (λ i. get_or nodes i 0) (length nodes) best
+gone_through μ c best {r} (xs, (u, (t, passed, end)), e) road =
+    fact_from_collect {E = ℕ} (λ (ys : List ℕ) (x : ℕ). x ≡ nearest_in μ c (λ i. get_or ys i 0) (length ys) best) (Ok r) (xs, (t, passed, λ _. (u, end)), e) road
 
 -- ---- the walk ends with a node that counts
 

@@ -1,11 +1,12 @@
 -- The operation by its rows: refused by the matrix, by the answer, or because they differ (15); else the score (`taken_row`).
-use mathlib.Core.Path.{◌≡◌, refl, ap, ◌∙◌}
+use mathlib.Core.Path.{◌≡◌, ap, ◌∙◌}
 use mathlib.Core.List.{List}
-use Prim.Native.Nat.{ℕ, zero, suc, ◌<◌}
+use Prim.Native.Nat.{ℕ, ◌≤◌}
 use native.Mathlib.Omega.{arith}
-use lib.ListN.{get_or, replicate}
+use lib.ListN.{length, get_or, take, replicate}
 use borrow.Author.Tests.{eq-eqb, ne_eqb}
 use Rattle.std.specs.Prelude.{Result, Ok, Err}
+use Rattle.std.proofs.lemmas.List.{get_or-take, length-take-le}
 use Rattle.record.specs.Refusals.{refused}
 use Rattle.record.specs.declared.Cursor.{Cursor}
 use Rattle.record.specs.declared.refusal.Refusal.{Refusal}
@@ -23,14 +24,16 @@ use Rattle.score.specs.declared.Lowers.{Lowers}
 use Rattle.score.specs.Score.{leaf, nearest_in, node_for, raises_of, lowers_of}
 use Rattle.score.specs.Operation.{node_in, stand_for, agreed, scored, returned, Scores}
 use Rattle.score.specs.declared.Sums.{Sums}
+use Rattle.score.proofs.Nearest.{nearest_same}
 
 -- ---- the groups in a value's places
 
--- Clusters that are the same below k have the same node that counts.
-nearest_same : (μ : ℕ → ℕ) (c : Column) (f g : ℕ → ℕ) (k best : ℕ) → ((i : ℕ) → i < k → f i ≡ g i) → nearest_in μ c f k best ≡ nearest_in μ c g k best
-unfolding nearest_in
-nearest_same μ c f g zero best e = refl
-nearest_same μ c f g (suc k) best e = rw (nearest_same μ c f g k best (λ i l. e i (omega arith)), e k (omega arith))
+-- The first k of the groups in the places are all groups of a slice that ends there.
+pub first_groups : (μ : ℕ → ℕ) (n k : ℕ) (groups : List ℕ) → k ≤ length groups → node_for μ n (take k groups) (length (take k groups)) ≡ node_for μ n groups k
+unfolding node_for
+first_groups μ n k groups few i c =
+    (ap (λ (l : ℕ). nearest_in μ c (λ j. get_or (take k groups) j 0) l (nearest_in μ c leaf n (leaf 0))) (length-take-le k groups few)
+    ∙ nearest_same μ c (λ j. get_or (take k groups) j 0) (λ j. get_or groups j 0) k (nearest_in μ c leaf n (leaf 0)) (λ j l. get_or-take k groups j 0 l)) i
 
 padded_node : (μ : ℕ → ℕ) (file : List ℕ) (n k : ℕ) → node_for μ n (padded (taxa_in file k)) k ≡ node_for μ n (taxa_in file k) k
 unfolding node_for

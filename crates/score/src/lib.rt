@@ -3,7 +3,8 @@
 // assigns. Flips count the specimens that their taxa stand for. Rests on taxa, record, matrix and answer.
 #![tactic(auto)]
 
-ghost use Rattle.std.specs.Prelude.{◌≡◌, ℕ, ◌*◌, ◌≤◌, ◌<◌, ◌+◌, length, get_or};
+ghost use Rattle.std.specs.Prelude.{◌≡◌, List, ℕ, ◌*◌, ◌≤◌, ◌<◌, ◌+◌, length, get_or};
+ghost use Rattle.std.specs.Iterator.{Drains, IsFinite};
 ghost use Rattle.taxa.specs.Sets.{multiplicity_in};
 ghost use Rattle.matrix.specs.Matrix.{columns_at, column_in};
 ghost use Rattle.score.specs.Score as score;
@@ -77,36 +78,27 @@ fn nearest_of(planes: &[u64; 72], it: Column, node: u64, best: u64) -> u64
     }
 }
 
-// The leaf that counts, of the first n taxa.
-fn nearest_leaf(planes: &[u64; 72], it: Column, n: u32) -> u64
+// The node that counts: of `first`, and all that follow.
+fn nearest_in<I: Iterator<Item = u64>>(planes: &[u64; 72], it: Column, nodes: I, first: u64) -> u64
+    requires can { I.can_next nodes }
+    requires ends { IsFinite (I.remaining nodes) }
+    ensures { (xs : List ℕ) × Drains I.next_gives nodes xs
+        × (result ≡ score.nearest_in (multiplicity_in planes.now) it (λ i. get_or xs i 0) (length xs) first) }
+{
+    let mut best = first;
+    for node in nodes {
+        best = nearest_of(planes, it, node, best);
+    }
+    best
+}
+
+// The node of the tree that counts for a column: of the leaves, then the groups.
+fn node_for(planes: &[u64; 72], it: Column, n: u32, groups: &[u64]) -> u64
     requires { n ≤ 64 }
-    ensures { result ≡ score.nearest_in (multiplicity_in planes.now) it score.leaf n (score.leaf 0) }
+    ensures { result ≡ score.node_for (multiplicity_in planes.now) n groups.now (length groups.now) it }
 {
-    let mut best: u64 = 1;
-    for i in 0..n {
-        best = nearest_of(planes, it, taxa::single(i), best);
-    }
-    best
-}
-
-// The node that counts: of the leaf that does, and the first k groups.
-fn nearest_node(planes: &[u64; 72], it: Column, groups: &[u64], k: usize, leaf: u64) -> u64
-    requires { k ≤ length groups.now }
-    ensures { result ≡ score.nearest_in (multiplicity_in planes.now) it (λ i. get_or groups.now i 0) k leaf }
-{
-    let mut best = leaf;
-    for &group in &groups[..k] {
-        best = nearest_of(planes, it, group, best);
-    }
-    best
-}
-
-// The node of the tree that counts for a column.
-fn node_for(planes: &[u64; 72], it: Column, n: u32, groups: &[u64], k: usize) -> u64
-    requires { (n ≤ 64) × (k ≤ length groups.now) }
-    ensures { result ≡ score.node_for (multiplicity_in planes.now) n groups.now k it }
-{
-    nearest_node(planes, it, groups, k, nearest_leaf(planes, it, n))
+    let leaf = nearest_in(planes, it, (0..n).map(taxa::single), taxa::single(0));
+    nearest_in(planes, it, groups.iter().copied(), leaf)
 }
 
 // A count of flips times the column's weight: at most 127 times 65,535.
@@ -138,19 +130,12 @@ fn with_column(planes: &[u64; 72], sum: Sums, it: Column, node: u64) -> Sums
 }
 
 // The score of the first m columns of a file that the check takes.
-fn score_columns(
-    planes: &[u64; 72],
-    file: &[u8],
-    m: usize,
-    n: u32,
-    groups: &[u64],
-    k: usize,
-) -> Sums
-    requires { (m ≤ 256) × (columns_at file.now + 22 * m ≤ length file.now) × (n ≤ 64) × (k ≤ length groups.now)
+fn score_columns(planes: &[u64; 72], file: &[u8], m: usize, n: u32, groups: &[u64]) -> Sums
+    requires { (m ≤ 256) × (columns_at file.now + 22 * m ≤ length file.now) × (n ≤ 64)
         × ((j : ℕ) → j < m → Light (multiplicity_in planes.now) (column_in file.now j)) }
-    ensures raised { (result.raises.0 ≡ score.raises_of (multiplicity_in planes.now) (column_in file.now) (score.node_for (multiplicity_in planes.now) n groups.now k) m)
+    ensures raised { (result.raises.0 ≡ score.raises_of (multiplicity_in planes.now) (column_in file.now) (score.node_for (multiplicity_in planes.now) n groups.now (length groups.now)) m)
         × (result.raises.0 ≤ m * column_most) }
-    ensures lowered { (result.lowers.0 ≡ score.lowers_of (multiplicity_in planes.now) (column_in file.now) (score.node_for (multiplicity_in planes.now) n groups.now k) m)
+    ensures lowered { (result.lowers.0 ≡ score.lowers_of (multiplicity_in planes.now) (column_in file.now) (score.node_for (multiplicity_in planes.now) n groups.now (length groups.now)) m)
         × (result.lowers.0 ≤ m * column_most) }
 {
     let mut sum = Sums {
@@ -159,7 +144,7 @@ fn score_columns(
     };
     for c in 0..m {
         let it = matrix::column_in(file, c);
-        sum = with_column(planes, sum, it, node_for(planes, it, n, groups, k));
+        sum = with_column(planes, sum, it, node_for(planes, it, n, groups));
     }
     sum
 }
@@ -170,23 +155,13 @@ fn score_read(matrix: &[u8], answer: &[u8], n: u16, m: u16) -> Result<Sums, Refu
     ensures { result ≡ operation.agreed matrix.now answer.now n m }
 {
     let value = answer_in(answer);
-    if value.n != n {
-        return Err(Reason::Differ.at(0));
-    }
-    if value.m != m {
+    if value.n != n || value.m != m {
         return Err(Reason::Differ.at(0));
     }
     let mut planes = [0u64; 72];
     matrix::load_planes(matrix, &mut planes);
-    let groups = value.taxa;
-    let sums = score_columns(
-        &planes,
-        matrix,
-        m as usize,
-        u32::from(n),
-        &groups,
-        value.groups as usize,
-    );
+    let groups = &value.taxa[..value.groups as usize];
+    let sums = score_columns(&planes, matrix, m as usize, u32::from(n), groups);
     Ok(sums)
 }
 

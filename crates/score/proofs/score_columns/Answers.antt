@@ -13,7 +13,7 @@ loop-c-init c = (refl, refl, search rules, search rules)
 
 pub with_column-sum-requires : goal.with_column-sum-requires
 with_column-sum-requires c =
-    (omega arith, omega arith, rw c.column_in-it.ensures (c.requires.4 c.loop-c.c (omega arith)))
+    (omega arith, omega arith, rw c.column_in-it.ensures (c.requires.3 c.loop-c.c (omega arith)))
 
 pub loop-c-preserved : goal.loop-c-preserved
 loop-c-preserved c =
