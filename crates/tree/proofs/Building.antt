@@ -129,9 +129,7 @@ module _ {file : List ℕ} {n m space : ℕ} (f : File file) (b : Growable file 
     pub to_order : Walked n ts' cs' k
     unfolding answer
     to_order =
-        let few = rw (h.stand_for, h.is, h.sized) at g.many in
         record {
-          listed = omega (arith, few_groups file_multiplicities file_columns_lem);
           few = rw groups_are (omega (arith, promises.groups_few M ok, few_taxa f b.taken, taken_known f b.taken));
           small = rw groups_are (omega (arith, promises.total_small M ok));
         }

@@ -9,8 +9,8 @@ ghost use Rattle.tree.specs.Build.{tree_with};
 ghost use Rattle.tree.specs.inner.Grow.{Walked, tree_of, Growable, Grew};
 ghost use Rattle.tree.specs.inner.On as on;
 
+use super::group_list::Groups;
 use super::grow;
-use super::order::Groups;
 use answer::Answer;
 use search::{Lists, net};
 use split::loaded::Loaded;

@@ -6,7 +6,7 @@ ghost use Rattle.taxa.specs.Sets.{count};
 ghost use Rattle.tree.specs.inner.Grow.{AllSmall};
 ghost use Rattle.tree.specs.inner.On as on;
 
-use super::order::Groups;
+use super::group_list::Groups;
 use search::Lists;
 use split::loaded::Loaded;
 

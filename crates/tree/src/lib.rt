@@ -4,6 +4,7 @@
 #![tactic(auto)]
 
 mod answers;
+mod group_list;
 mod groups;
 mod grow;
 mod order;

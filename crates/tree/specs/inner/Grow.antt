@@ -73,7 +73,6 @@ pub record AllSmall (Ps : List ℕ) (n bound room : ℕ) : Type 0 where
 
 -- k groups as walked, whose list in file order fits 63 places and whose total fits 4 bytes.
 pub record Walked (n : ℕ) (walked paid : List ℕ) (k : ℕ) : Type 0 where
-  pub listed : k ≤ 63
   pub few : length (ordered 64 n (first_groups walked paid k)) ≤ 63
   pub small : total (ordered 64 n (first_groups walked paid k)) < 2 ^ 32
 

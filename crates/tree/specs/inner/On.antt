@@ -3,7 +3,7 @@ use Rattle.std.specs.Prelude.{List, ℕ, ℤ}
 use Rattle.method.specs.Tree.{Walk}
 use Rattle.split.specs.declared.loaded.Loaded.{Loaded}
 use Rattle.split.specs.inner.On.{weights, entries, Kept}
-use Rattle.tree.specs.declared.order.Groups.{Groups}
+use Rattle.tree.specs.declared.group_list.Groups.{Groups}
 use Rattle.tree.specs.Lists.{listed}
 use Rattle.tree.specs.inner.Grow as grow
 
