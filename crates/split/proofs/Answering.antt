@@ -8,7 +8,7 @@ use lib.Dec.{ltb}
 use lib.IntN.{ℤ}
 use lib.ListN.{length}
 use borrow.Author.Tests.{lt-ltb, le-ltb}
-use Rattle.taxa.specs.Sets.{within, Positive, multiplicity, multiplicity_in, Tabled, count, all}
+use Rattle.taxa.specs.Sets.{within, count, all}
 use Rattle.taxa.proofs.Members.{⊆-≤, all_<, within_⊆}
 use Rattle.taxa.proofs.Counts.{count_width}
 use Rattle.record.specs.Bytes.{File}
@@ -16,13 +16,13 @@ use Rattle.record.specs.Refusals.{refused}
 use Rattle.record.specs.declared.refusal.Refusal.{Refusal}
 use Rattle.matrix.specs.Check.{checked}
 use Rattle.method.specs.Split.{Column, side, split_cost, parted}
-use Rattle.method.specs.Flow.{arc_count}
-use Rattle.method.specs.Tree.{column, one_entries}
+use Rattle.method.specs.Tree.{one_entries}
 use Rattle.method.proofs.Arcs.{arcs_ones}
-use Rattle.search.specs.Search.{Given}
 use Rattle.search.specs.Workspace.{cleared}
 use Rattle.search.proofs.Workspace.{clear_less, cleared_clear}
-use Rattle.split.specs.inner.Handing.{Parallel, Splittable}
+use Rattle.split.specs.inner.Handing.{Splittable}
+use Rattle.split.specs.inner.On as on
+use Rattle.split.specs.declared.loaded.Loaded.{Loaded}
 use Rattle.split.specs.Columns.{matrix_in}
 use Rattle.split.specs.Groups.{IsSplit}
 use Rattle.split.specs.Operation.{split_of, no_group, answered, divided, workspace_after, returned, split_numbers}
@@ -73,33 +73,38 @@ module _ {file : List ℕ} {S n m room : ℕ} (f : File file) (s : Splittable fi
   two_of_n : 1 < count n S
   two_of_n = omega (arith, s.two, count_width taxa_few below_n)
 
-  module _ {ws P os zs : List ℕ} (p : Parallel ws os zs) (long : length ws ≡ m) where
-    pub given : Positive (multiplicity_in P) → Tabled P → Given ws P os zs S n m
-    given pos tab = record {
-      taxa = taxa_few;
-      columns = few_columns f s.taken;
-      weights = omega arith;
-      ones = omega arith;
-      zeros = omega arith;
-      group = below_n;
-      two = two_of_n;
-      positive = pos;
-      tabled = tab;
-    }
+  module _ {x : Loaded} (h : on.Holds file n m x) where
+    pub given : on.Given x S
+    given =
+        record {
+          taxa = x.few_taxa;
+          columns = omega (arith, h.sized, few_columns f s.taken);
+          weights = omega arith;
+          ones = omega (arith, h.parallel.ones);
+          zeros = omega (arith, h.parallel.zeros);
+          group = rw h.taxa_are below_n;
+          two = rw h.taxa_are two_of_n;
+          positive = h.positive;
+          tabled = h.tabled;
+        }
+
+    -- The search uses no more numbers than there are 1s.
+    pub arcs_fit : {k : ℕ} → k ≡ one_entries (matrix_in file) → on.arcs x S ≤ k
+    unfolding one_entries
+    arcs_fit many =
+        let long = h.sized ∙ sym (taken_count f s.taken) in
+        rw (many, ← long, ← h.is) (arcs_ones (length (on.weights x)) (on.columns x) S)
 
   -- The method's answer for multiplicities and columns.
   abbrev taken_of : (ℕ → ℕ) → ℕ → (ℕ → Column) → Result Split Refusal
   taken_of μ k cols = Ok (record { cost = split_cost 64 μ k cols S; side = side 64 μ k cols S; other = parted 64 S (side 64 μ k cols S) })
 
-  pub found : {μ : ℕ → ℕ} {cols : ℕ → Column} {cost t A : ℕ} → IsSplit μ m cols S cost A t → μ ≡ multiplicity (matrix_in file).multiplicities
-      → cols ≡ column (matrix_in file).columns → Ok (record { cost = cost; side = A; other = t }) ≡ split_of (matrix_in file) S
+  pub found : {x : Loaded} {cost t A : ℕ} → on.Holds file n m x → IsSplit (on.multiplicities x) x.m (on.columns x) S cost A t
+      → Ok (record { cost = cost; side = A; other = t }) ≡ split_of (matrix_in file) S
   unfolding split_of
-  found d u e = (λ i. Ok (record { cost = d.is_cost i; side = d.is_side i; other = d.is_parted i })) ∙ (λ i. taken_of (u i) (sym (taken_count f s.taken) i) (e i))
-
-  -- The search uses no more numbers than there are 1s.
-  pub arcs_fit : {cols : ℕ → Column} {k : ℕ} → k ≡ one_entries (matrix_in file) → cols ≡ column (matrix_in file).columns → arc_count m cols S ≤ k
-  unfolding one_entries
-  arcs_fit {cols} many e = rw (many, taken_count f s.taken, ← e) (arcs_ones m cols S)
+  found {x} h d =
+      (λ i. Ok (record { cost = d.is_cost i; side = d.is_side i; other = d.is_parted i }))
+      ∙ (λ i. taken_of (h.stand_for i) ((h.columns_are ∙ sym (taken_count f s.taken)) i) (h.is i))
 
 -- ---- what is left of the workspace
 

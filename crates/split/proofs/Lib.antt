@@ -6,5 +6,6 @@ pub mod Growing
 pub mod Collecting
 pub mod Soundness
 pub mod Dividing
+pub mod Standing
 pub mod Answering
 pub mod Places

@@ -1,31 +1,15 @@
-// The columns of a matrix in three lent slices, one entry a column: loaded from a file, and flipped by a division.
+// The columns of a matrix: loaded from a file, and flipped by a division.
 ghost use Rattle.std.specs.Prelude.{◌≡◌, ◌+◌, ◌*◌, ◌≤◌, length};
 ghost use Rattle.taxa.specs.Sets.{◌∩◌, mass, multiplicity_in};
+ghost use Rattle.matrix.specs.Check.{shape, checked};
 ghost use Rattle.matrix.specs.Matrix.{columns_at};
 ghost use Rattle.method.specs.Split as method;
-ghost use Rattle.method.specs.Tree.{column, one_entries};
-ghost use Rattle.search.specs.Search.{cols_of};
+ghost use Rattle.method.specs.Tree.{one_entries};
 ghost use Rattle.split.specs.Columns.{column_of, matrix_in};
-ghost use Rattle.split.specs.inner.Handing.{Parallel};
+ghost use Rattle.split.specs.inner.On as on;
 
+use crate::loaded::Loaded;
 use matrix::Column;
-
-// The columns of a file that the check takes.
-pub fn load(file: &[u8], weights: &mut [u16], ones: &mut [u64], zeros: &mut [u64])
-    requires { Parallel weights.old ones.old zeros.old
-        × (length weights.old ≡ length (matrix_in file.now).columns)
-        × (columns_at file.now + 22 * length weights.old ≤ length file.now) }
-    ensures { (cols_of weights.new ones.new zeros.new ≡ column (matrix_in file.now).columns)
-        × Parallel weights.new ones.new zeros.new
-        × (length weights.new ≡ length weights.old) }
-{
-    for c in 0..weights.len() {
-        let it = matrix::column_in(file, c);
-        weights[c] = it.weight;
-        ones[c] = it.ones;
-        zeros[c] = it.zeros;
-    }
-}
 
 // How many 1-entries the m columns of a file that the check takes have.
 pub fn one_entries(file: &[u8], m: usize) -> usize
@@ -87,28 +71,38 @@ fn flip(planes: &[u64; 72], it: Column, group: u64, side: u64) -> Column
     lower(it, rest)
 }
 
-// Every column flipped by a division of the group.
-pub fn flip_columns(
-    weights: &[u16],
-    planes: &[u64; 72],
-    ones: &mut [u64],
-    zeros: &mut [u64],
-    group: u64,
-    side: u64,
-)
-    requires { Parallel weights.now ones.old zeros.old }
-    ensures { (cols_of weights.now ones.new zeros.new
-        ≡ method.flipped 64 (multiplicity_in planes.now) (length weights.now) (cols_of weights.now ones.old zeros.old) group side)
-        × Parallel weights.now ones.new zeros.new }
-{
-    for c in 0..weights.len() {
-        let it = Column {
-            weight: weights[c],
-            ones: ones[c],
-            zeros: zeros[c],
-        };
-        let new = flip(planes, it, group, side);
-        ones[c] = new.ones;
-        zeros[c] = new.zeros;
+impl Loaded {
+    // The taxa and columns of a file that the check takes.
+    pub fn load(&mut self, file: &[u8], n: usize, m: usize)
+        requires { Ok (shape n m) ≡ checked file.now }
+        ensures { on.Holds file.now n m self.new }
+    {
+        self.n = n;
+        self.m = m;
+        matrix::load_planes(file, &mut self.planes);
+        for c in 0..m {
+            let it = matrix::column_in(file, c);
+            self.weights[c] = it.weight;
+            self.ones[c] = it.ones;
+            self.zeros[c] = it.zeros;
+        }
+    }
+
+    // Every column flipped by a division of the group.
+    pub fn flip(&mut self, group: u64, side: u64)
+        ensures { (on.columns self.new ≡ method.flipped 64 (on.multiplicities self.old) self.old.m (on.columns self.old) group side)
+            × on.Parallel self.old self.new
+            × on.Kept self.old self.new }
+    {
+        for c in 0..self.m {
+            let it = Column {
+                weight: self.weights[c],
+                ones: self.ones[c],
+                zeros: self.zeros[c],
+            };
+            let new = flip(&self.planes, it, group, side);
+            self.ones[c] = new.ones;
+            self.zeros[c] = new.zeros;
+        }
     }
 }

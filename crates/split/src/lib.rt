@@ -5,47 +5,39 @@
 
 pub mod columns;
 pub mod group;
+pub mod loaded;
 mod parts;
 
 ghost use Rattle.std.specs.Prelude.{◌≡◌, length};
 ghost use Rattle.matrix.specs.Check.{shape, checked};
 ghost use Rattle.method.specs.Tree.{one_entries};
 ghost use Rattle.search.specs.Workspace.{cleared};
-ghost use Rattle.split.specs.inner.Handing.{Parallel, Splittable};
+ghost use Rattle.split.specs.inner.Handing.{Splittable};
 ghost use Rattle.split.specs.Columns.{matrix_in};
 ghost use Rattle.split.specs.Operation.{split_of, answered, workspace_after, Splits};
 
+use loaded::Loaded;
 use matrix::Shape;
 use record::refusal::{Reason, Refusal};
 use search::{Lists, Split};
 
-// The split of a group that nothing refuses; the three slices are room for the file's columns. The numbers that document 02's C-13 lends are cleared first,
-// and the search of the group uses no others.
+// The split of a group that nothing refuses. The numbers that document 02's C-13 lends are cleared first, and the search of the group uses no others.
 fn split_loaded(
     file: &[u8],
-    weights: &mut [u16],
-    ones: &mut [u64],
-    zeros: &mut [u64],
     group: u64,
     n: usize,
     m: usize,
     needed: usize,
     workspace: &mut [i32],
 ) -> Split
-    requires { Splittable file.now group n m (length workspace.old)
-        × Parallel weights.old ones.old zeros.old
-        × (length weights.old ≡ m)
-        × (needed ≡ one_entries (matrix_in file.now)) }
+    requires { Splittable file.now group n m (length workspace.old) × (needed ≡ one_entries (matrix_in file.now)) }
     ensures { (Ok result ≡ split_of (matrix_in file.now) group) × (workspace.new ≡ cleared needed workspace.old) }
 {
-    columns::load(file, weights, ones, zeros);
-    let mut planes = [0u64; 72];
-    matrix::load_planes(file, &mut planes);
+    let mut matrix = Loaded::new();
+    matrix.load(file, n, m);
     search::net::clear(workspace, needed);
     let mut lists = Lists::new();
-    group::divide(
-        weights, &planes, ones, zeros, group, n, m, workspace, &mut lists,
-    )
+    matrix.divide(group, workspace, &mut lists)
 }
 
 // A matrix that is taken: the refusals of the group and of the workspace, and else the division.
@@ -70,20 +62,7 @@ fn split_matrix(
     if workspace.len() < needed {
         return Err(Reason::Workspace.at(0));
     }
-    let mut weights = [0u16; 256];
-    let mut ones = [0u64; 256];
-    let mut zeros = [0u64; 256];
-    Ok(split_loaded(
-        file,
-        &mut weights[..m],
-        &mut ones[..m],
-        &mut zeros[..m],
-        group,
-        n,
-        m,
-        needed,
-        workspace,
-    ))
+    Ok(split_loaded(file, group, n, m, needed, workspace))
 }
 
 // The operation "split": the division's cost, its side A and the taxon t.

@@ -1,12 +1,12 @@
--- The tree of a file that is taken: what the steps of its growing ask for (`lent_ready`, `lent_room`, `to_order`), and that what they come to is the tree of
+-- The tree of a file that is taken: what the steps of its growing ask for (`lent_ready`, `lent_fits`, `to_order`), and that what they come to is the tree of
 -- the method's answer, with its flips (`has_grown`). Then that writing it, or all, is not refused (`tree_written`, `whole_written`, `answers_all`).
 use mathlib.Core.Path.{◌≡◌, refl, sym, ap, ◌∙◌, subst}
-use mathlib.Core.List.{List, ◌++◌}
+use mathlib.Core.List.{List}
 use Prim.Native.Nat.{ℕ, zero, suc, ◌≤◌, ◌<◌}
 use native.Mathlib.Omega.{arith}
 use lib.IntN.{ℤ}
-use lib.ListN.{length, take}
-use lib.Seq.{take_at, get_or-take}
+use lib.ListN.{length}
+use lib.Seq.{get_or-take}
 use borrow.Author.Tests.{le-ltb}
 use Rattle.taxa.specs.Sets.{Positive, multiplicity, multiplicity_in, Tabled, all}
 use Rattle.taxa.proofs.Members.{all_<, all_fits}
@@ -31,8 +31,11 @@ use Rattle.split.specs.inner.Handing.{Parallel}
 use Rattle.split.specs.Columns.{matrix_in}
 use Rattle.split.proofs.Soundness.{taken_count, taken_known, few_taxa, few_columns, can_load, taken_sound}
 use Rattle.tree.specs.Lists.{first_groups}
-use Rattle.tree.specs.inner.Lists.{Room, unweighed}
-use Rattle.tree.specs.inner.Grow.{entries_for, InFront, arcs_in, Ready, Grown, walk_from, Walked, tree_of, Growable, Grew, Answers}
+use Rattle.tree.specs.inner.Lists.{unweighed}
+use Rattle.tree.specs.inner.Grow.{arcs_in, Ready, Grown, Walked, tree_of, Growable, Grew, Answers}
+use Rattle.tree.specs.inner.On as tree-on
+use Rattle.split.specs.inner.On as on
+use Rattle.split.specs.declared.loaded.Loaded.{Loaded}
 use Rattle.tree.specs.Build as specs
 use Rattle.tree.specs.Build.{tree_with, with_flips, tree_for, content_for, tree_room, room_for}
 use Rattle.tree.proofs.Rules.{answer_lawful, answer_fits, flips_few, answer_of_tree, tree_lawful, tree_fits}
@@ -49,15 +52,6 @@ same_flips zero old new new' same = refl
 same_flips (suc m) old new new' same =
     let (ones, zeros) = same m (omega arith) in
     rw (same_flips m old new new' (λ c l. same c (omega arith)), ones, zeros)
-
--- Columns that were loaded into the first entries of three lists stand in front there.
-pub in_front : (m : ℕ) (cols : ℕ → Column) (ws os zs w o z : List ℕ) → cols_of ws os zs ≡ cols → Parallel ws os zs → length ws ≡ m
-    → InFront m cols (ws ++ w) (os ++ o) (zs ++ z)
-in_front m cols ws os zs w o z is p sized =
-    let first = take_at ws w m sized in
-    let second = take_at os o m (p.ones ∙ sized) in
-    let third = take_at zs z m (p.zeros ∙ sized) in
-    record { columns = rw (first, second, third) is; parallel = rw (first, second, third) p; sized = rw first sized }
 
 module _ {file : List ℕ} {n m space : ℕ} (f : File file) (b : Growable file n m space) where
   abbrev M : Matrix
@@ -101,37 +95,21 @@ module _ {file : List ℕ} {n m space : ℕ} (f : File file) (b : Growable file 
       let size = count_all 64 n few in
       omega (arith, build_length 64 μ m cols (all n) (all_fits 64 few) (omega (arith, ok.some, taken_known f b.taken)))
 
-  grow_room : (ws P os zs : List ℕ) {ts cs : List ℕ} → length ws ≡ m → length ts ≡ 63 → length cs ≡ 63
-      → Room (length (walk_from ws P os zs (all n)).groups) ts cs
-  grow_room ws P os zs e t c = rw e (let few = few_groups (multiplicity_in P) (cols_of ws os zs) in record { taxa_room = omega arith; costs_room = omega arith })
+  module _ {x : Loaded} (h : on.Holds file n m x) where
+    pub lent_ready : {needed : ℕ} {clear : List ℤ} (before : List ℤ) → needed ≡ one_entries M → clear ≡ cleared needed before → length before ≡ space
+        → tree-on.Ready x (all x.n) clear
+    lent_ready before k c l = rw h.taxa_are (grow_ready before h.parallel h.is h.stand_for h.tabled h.sized k c l)
 
-  module _ (ws P os zs : List ℕ) (p : InFront m file_columns_lem ws os zs) where
-    abbrev lent : List ℕ
-    lent = take m ws
-
-    pub lent_columns : cols_of lent (entries_for lent os) (entries_for lent zs) ≡ file_columns_lem
-    lent_columns = rw p.sized p.columns
-
-    pub lent_ready : multiplicity_in P ≡ file_multiplicities → Tabled P → {needed : ℕ} {clear : List ℤ} (before : List ℤ)
-        → needed ≡ one_entries M → clear ≡ cleared needed before → length before ≡ space → Ready lent P (entries_for lent os) (entries_for lent zs) (all n) n clear
-    lent_ready u t before k c l = rw p.sized (grow_ready before p.parallel p.columns u t p.sized k c l)
-
-    pub lent_fits : length (walk_from lent P (entries_for lent os) (entries_for lent zs) (all n)).groups ≤ 63
-    lent_fits = rw p.sized (few_groups (multiplicity_in P) (cols_of lent (take m os) (take m zs)))
-
-    pub lent_room : {ts cs : List ℕ} → length ts ≡ 63 → length cs ≡ 63
-        → Room (length (walk_from lent P (entries_for lent os) (entries_for lent zs) (all n)).groups) ts cs
-    lent_room t c = grow_room lent P _ _ p.sized t c
+    pub lent_fits : length (tree-on.walk_from x (all x.n)).groups ≤ 63
+    lent_fits = rw (h.taxa_are, h.sized) (few_groups (on.multiplicities x) (on.columns x))
 
   -- ---- what it comes to
 
-  module _ (ws P os zs os' zs' ts cs ts' cs' : List ℕ) {clear clear' : List ℤ} (k : ℕ) (same : multiplicity_in P ≡ file_multiplicities)
-      (start : cols_of ws (entries_for ws os) (entries_for ws zs) ≡ file_columns_lem) (sized : length ws ≡ m)
-      (g : Grown ws (entries_for ws os') (entries_for ws zs') clear clear' (walk_from ws P (entries_for ws os) (entries_for ws zs) (all n))
-      (first_groups ts cs 0) (first_groups ts' cs' k) 0 k) where
+  module _ {x : Loaded} (h : on.Holds file n m x) (os' zs' ts cs ts' cs' : List ℕ) {clear clear' : List ℤ} (k : ℕ)
+      (g : Grown (on.weights x) (on.entries x os') (on.entries x zs') clear clear' (tree-on.walk_from x (all n)) (first_groups ts cs 0) (first_groups ts' cs' k) 0 k) where
     walked_groups : first_groups ts' cs' k ≡ (build 64 file_multiplicities (length M.columns) file_columns_lem (all M.taxa)).groups
     unfolding first_groups
-    walked_groups = g.groups ∙ rw (same, start, sized, taken_count f b.taken, taken_known f b.taken)
+    walked_groups = g.groups ∙ rw (h.stand_for, h.is, h.sized, taken_count f b.taken, taken_known f b.taken)
 
     groups_are : ordered 64 n (first_groups ts' cs' k) ≡ (answer M).groups
     unfolding answer
@@ -140,9 +118,9 @@ module _ {file : List ℕ} {n m space : ℕ} (f : File file) (b : Growable file 
     flips_are : flip_list m file_columns_lem (unweighed os' zs') ≡ (answer M).flips
     unfolding answer cols_of
     flips_are =
-        same_flips m file_columns_lem (unweighed os' zs') (cols_of ws (entries_for ws os') (entries_for ws zs'))
-        (λ c l. (sym (get_or-take (length ws) os' c 0 (omega arith)), sym (get_or-take (length ws) zs' c 0 (omega arith))))
-        ∙ rw (g.columns, same, start, sized, taken_count f b.taken, taken_known f b.taken)
+        same_flips m file_columns_lem (unweighed os' zs') (cols_of (on.weights x) (on.entries x os') (on.entries x zs'))
+        (λ c l. (sym (get_or-take x.m os' c 0 (omega (arith, h.columns_are))), sym (get_or-take x.m zs' c 0 (omega (arith, h.columns_are)))))
+        ∙ rw (g.columns, h.stand_for, h.is, h.sized, taken_count f b.taken, taken_known f b.taken)
 
     pub tree_is : tree_with n m (ordered 64 n (first_groups ts' cs' k)) ≡ tree_for M
     unfolding tree_for
@@ -151,17 +129,15 @@ module _ {file : List ℕ} {n m space : ℕ} (f : File file) (b : Growable file 
     pub to_order : Walked n ts' cs' k
     unfolding answer
     to_order =
-        let few = rw (same, start, sized) at g.many in
         record {
-          listed = omega (arith, few_groups file_multiplicities file_columns_lem);
           few = rw groups_are (omega (arith, promises.groups_few M ok, few_taxa f b.taken, taken_known f b.taken));
           small = rw groups_are (omega (arith, promises.total_small M ok));
         }
 
     -- So the tree has grown.
-    pub has_grown : {a : Answer} → length os' ≡ 256 → length zs' ≡ 256 → (tree_of a ≡ tree_with n m (ordered 64 n (first_groups ts' cs' k))) × (a.flips ≡ 0)
+    pub has_grown : {a : Answer} → (tree_of a ≡ tree_with n m (ordered 64 n (first_groups ts' cs' k))) × (a.flips ≡ 0)
         → Grew file a os' zs'
-    has_grown {a} ones zeros (e, none) =
+    has_grown {a} (e, none) =
         let many : a.m ≡ m = ap (λ (c : Content). c.m) e in
         record {
           tree = e ∙ tree_is;
@@ -171,8 +147,6 @@ module _ {file : List ℕ} {n m space : ℕ} (f : File file) (b : Growable file 
             columns = many ∙ sym (taken_count f b.taken);
             few_columns = omega (arith, few_columns f b.taken);
             whole = rw many (can_load f b.taken refl).1;
-            ones = ones;
-            zeros = zeros;
           };
         }
 

@@ -1,7 +1,7 @@
 -- Lists of groups and of flips, as the parallel lists of numbers that hold them.
 use Rattle.std.specs.Prelude.{List, [], ◌∷◌, ◌++◌, ℕ, zero, suc, get_or}
 use Rattle.method.specs.Tree.{Group, Flips}
-use Rattle.tree.specs.declared.order.Groups.{Groups}
+use Rattle.tree.specs.declared.group_list.Groups.{Groups}
 
 -- The first k groups of two lists.
 unfoldable pub first_groups : List ℕ → List ℕ → ℕ → List Group

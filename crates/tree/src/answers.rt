@@ -12,6 +12,7 @@ ghost use Rattle.tree.specs.inner.Grow.{written_as, tree_of, Flipped, Answers};
 use super::{Built, order};
 use answer::Answer;
 use record::refusal::Refusal;
+use split::loaded::Loaded;
 
 // What the groups of 64 taxa take, without flips.
 const MOST_TREE: usize = 1028;
@@ -49,28 +50,29 @@ pub fn is_tree(file: &[u8], tree: Answer) -> bool
 pub fn write_whole(
     file: &[u8],
     tree: Answer,
-    ones: &mut [u64; 256],
-    zeros: &mut [u64; 256],
+    matrix: &mut Loaded,
     out: &mut [u8],
 ) -> Result<Built, Refusal>
-    requires { Flipped file.now ones.old zeros.old tree.m }
+    requires { Flipped file.now tree.m }
     ensures { Answers
         (with_flips (tree_of tree)
-        (flip_list tree.m (column (matrix_in file.now).columns) (unweighed ones.old zeros.old)))
+        (flip_list tree.m (column (matrix_in file.now).columns) (unweighed matrix.old.ones matrix.old.zeros)))
         256 out.old result out.new }
 {
     let mut columns = [0u64; 256];
-    let flips = order::list_flips(file, tree.m as usize, &mut columns, ones, zeros);
-    let taxa = tree.taxa;
-    let costs = tree.costs;
+    let flips = order::list_flips(
+        file,
+        tree.m as usize,
+        &mut columns,
+        &mut matrix.ones,
+        &mut matrix.zeros,
+    );
     let whole = Answer {
-        n: tree.n,
-        m: tree.m,
-        groups: tree.groups,
         flips: flips as u16,
-        total: tree.total,
-        taxa,
-        costs,
+        ..tree
     };
-    as_built(answer::write(whole, &columns, ones, zeros, out), tree.total)
+    as_built(
+        answer::write(whole, &columns, &matrix.ones, &matrix.zeros, out),
+        tree.total,
+    )
 }

@@ -1,61 +1,31 @@
 // Groups and costs: the walk from all taxa, its groups put into file order.
-ghost use Rattle.std.specs.Prelude.{◌≡◌, ◌+◌, ◌*◌, ◌≤◌, length};
-ghost use Rattle.matrix.specs.Matrix.{columns_at};
+ghost use Rattle.std.specs.Prelude.{◌≡◌, ◌+◌, ◌≤◌, length};
 ghost use Rattle.search.specs.Workspace.{cleared};
 ghost use Rattle.split.specs.Columns.{matrix_in};
 ghost use Rattle.taxa.specs.Sets.{all};
-ghost use Rattle.method.specs.Tree.{column, one_entries, ordered};
+ghost use Rattle.method.specs.Tree.{one_entries, ordered};
 ghost use Rattle.tree.specs.Lists.{listed};
 ghost use Rattle.tree.specs.Build.{tree_with};
-ghost use Rattle.tree.specs.inner.Grow.{entries_for, InFront, Ready, Grown, walk_from, Walked, tree_of, Growable, Grew};
+ghost use Rattle.tree.specs.inner.Grow.{Walked, tree_of, Growable, Grew};
+ghost use Rattle.tree.specs.inner.On as on;
 
+use super::group_list::Groups;
 use super::grow;
-use super::order::Groups;
 use answer::Answer;
 use search::{Lists, net};
-use split::columns;
+use split::loaded::Loaded;
 
 // The walk from all taxa. The lists of the search and of the parts stand only while the tree grows.
-fn grow_all(
-    weights: &[u16],
-    planes: &[u64; 72],
-    ones: &mut [u64; 256],
-    zeros: &mut [u64; 256],
-    n: usize,
-    workspace: &mut [i32],
-    groups: &mut Groups,
-)
-    requires ready { Ready weights.now planes.now (entries_for weights.now ones.old) (entries_for weights.now zeros.old) (all n) n workspace.old }
-    requires room { groups.old.count + length (walk_from weights.now planes.now (entries_for weights.now ones.old) (entries_for weights.now zeros.old) (all n)).groups ≤ 63 }
-    ensures { Grown weights.now (entries_for weights.now ones.new) (entries_for weights.now zeros.new)
-        workspace.old workspace.new
-        (walk_from weights.now planes.now (entries_for weights.now ones.old)
-        (entries_for weights.now zeros.old) (all n))
-        (listed groups.old) (listed groups.new) groups.old.count groups.new.count }
+fn grow_all(matrix: &mut Loaded, workspace: &mut [i32], groups: &mut Groups)
+    requires ready { on.Ready matrix.old (all matrix.old.n) workspace.old }
+    requires room { groups.old.count + length (on.walk_from matrix.old (all matrix.old.n)).groups ≤ 63 }
+    ensures { on.Grown matrix.old matrix.new workspace.old workspace.new
+        (on.walk_from matrix.old (all matrix.old.n)) groups.old groups.new }
 {
     let mut list = [0u64; 128];
     let mut lists = Lists::new();
-    grow::grow(
-        weights,
-        planes,
-        ones,
-        zeros,
-        workspace,
-        n,
-        taxa::all(n as u32),
-        &mut list,
-        &mut lists,
-        groups,
-    );
-}
-
-// The columns of a file that the check takes, put in front in lists that may be longer.
-fn load_columns(file: &[u8], m: usize, weights: &mut [u16], ones: &mut [u64], zeros: &mut [u64])
-    requires { ((m ≡ length (matrix_in file.now).columns) × (columns_at file.now + 22 * m ≤ length file.now))
-        × (m ≤ length weights.old) × (m ≤ length ones.old) × (m ≤ length zeros.old) }
-    ensures { InFront m (column (matrix_in file.now).columns) weights.new ones.new zeros.new }
-{
-    columns::load(file, &mut weights[..m], &mut ones[..m], &mut zeros[..m]);
+    let everyone = taxa::all(matrix.n as u32);
+    grow::grow(matrix, workspace, everyone, &mut list, &mut lists, groups);
 }
 
 // A walk's groups in file order, with their costs and the total, as what an answer holds that has no flips.
@@ -75,36 +45,23 @@ fn in_file_order(n: u16, m: u16, walked: &Groups) -> Answer
     }
 }
 
-// The tree of a matrix that is taken: its columns are loaded into the lists lent, and flipped there as the tree grows. The workspace is cleared once: each
-// split leaves it so.
+// The tree of a matrix that is taken: it is loaded into the room lent, and its columns are flipped there as the tree grows. The workspace is cleared once:
+// each split leaves it so.
 pub fn grow_tree(
     file: &[u8],
     n: u16,
     m: u16,
     needed: usize,
     workspace: &mut [i32],
-    ones: &mut [u64; 256],
-    zeros: &mut [u64; 256],
+    matrix: &mut Loaded,
 ) -> Answer
     requires { Growable file.now n m (length workspace.old) × (needed ≡ one_entries (matrix_in file.now)) }
-    ensures { Grew file.now result ones.new zeros.new
+    ensures { Grew file.now result matrix.new.ones matrix.new.zeros
         × (workspace.new ≡ cleared (one_entries (matrix_in file.now)) workspace.old) }
 {
-    let columns = m as usize;
-    let mut planes = [0u64; 72];
-    matrix::load_planes(file, &mut planes);
-    let mut weights = [0u16; 256];
-    load_columns(file, columns, &mut weights, ones, zeros);
+    matrix.load(file, n as usize, m as usize);
     net::clear(workspace, needed);
     let mut walked = Groups::new();
-    grow_all(
-        &weights[..columns],
-        &planes,
-        ones,
-        zeros,
-        n as usize,
-        workspace,
-        &mut walked,
-    );
+    grow_all(matrix, workspace, &mut walked);
     in_file_order(n, m, &walked)
 }

@@ -4,6 +4,7 @@
 #![tactic(auto)]
 
 mod answers;
+mod group_list;
 mod groups;
 mod grow;
 mod order;
@@ -21,6 +22,7 @@ use matrix::Shape;
 use record::number::u16_at;
 use record::refusal::{Reason, Refusal};
 use split::columns;
+use split::loaded::Loaded;
 
 // What the build answers, and each of its steps: the length written and the total.
 #[derive(Clone, Copy)]
@@ -73,10 +75,9 @@ fn build_taken(
 {
     let needed = columns::one_entries(file, m as usize);
     check_lent(workspace.len(), needed, out.len(), answer_room(n, m))?;
-    let mut ones = [0u64; 256];
-    let mut zeros = [0u64; 256];
-    let tree = groups::grow_tree(file, n, m, needed, workspace, &mut ones, &mut zeros);
-    answers::write_whole(file, tree, &mut ones, &mut zeros, out)
+    let mut matrix = Loaded::new();
+    let tree = groups::grow_tree(file, n, m, needed, workspace, &mut matrix);
+    answers::write_whole(file, tree, &mut matrix, out)
 }
 
 // The operation "build".
@@ -102,9 +103,8 @@ fn tree_taken(
 {
     let needed = columns::one_entries(file, m as usize);
     check_lent(workspace.len(), needed, out.len(), tree_room(n))?;
-    let mut ones = [0u64; 256];
-    let mut zeros = [0u64; 256];
-    let tree = groups::grow_tree(file, n, m, needed, workspace, &mut ones, &mut zeros);
+    let mut matrix = Loaded::new();
+    let tree = groups::grow_tree(file, n, m, needed, workspace, &mut matrix);
     answers::write_tree(tree, out)
 }
 
@@ -148,13 +148,12 @@ fn flips_taken(
     let needed = columns::one_entries(file, m as usize);
     let wanted = answer_room(n, m);
     check_lent(workspace.len(), needed, out.len(), wanted)?;
-    let mut ones = [0u64; 256];
-    let mut zeros = [0u64; 256];
-    let own = groups::grow_tree(file, n, m, needed, workspace, &mut ones, &mut zeros);
+    let mut matrix = Loaded::new();
+    let own = groups::grow_tree(file, n, m, needed, workspace, &mut matrix);
     if !answers::is_tree(tree, own) {
         return Err(Reason::OtherTree.at(0));
     }
-    answers::write_whole(file, own, &mut ones, &mut zeros, out)
+    answers::write_whole(file, own, &mut matrix, out)
 }
 
 // The operation "flips": a matrix and its tree, as an answer file without flips, to the whole answer.

@@ -8,13 +8,7 @@ ghost use Rattle.tree.specs.inner.Lists as lists;
 ghost use Rattle.tree.specs.Lists.{listed, first_flips};
 ghost use Rattle.tree.specs.inner.Lists.{starts_at, FlipRoom, SameFrom, unweighed};
 
-// Groups, each with its cost. Every group but the first is a part of one before it, so 64 taxa have no more than 63.
-#[derive(Drop)]
-pub struct Groups {
-    pub taxa: [u64; 63],
-    pub costs: [u32; 63],
-    pub count: usize,
-}
+use super::group_list::Groups;
 
 // Whether a group's lowest taxon is i.
 fn starts_at(group: u64, i: u32) -> bool
@@ -24,16 +18,6 @@ fn starts_at(group: u64, i: u32) -> bool
 }
 
 impl Groups {
-    pub fn new() -> Groups
-        ensures { result.count ≡ 0 }
-    {
-        Groups {
-            taxa: [0; 63],
-            costs: [0; 63],
-            count: 0,
-        }
-    }
-
     // One group more.
     pub fn put(&mut self, group: u64, cost: u32)
         requires { self.old.count < 63 }
@@ -47,7 +31,7 @@ impl Groups {
 
     // Those whose lowest taxon is i, as walked, after those that stand here.
     fn keep_lowest(&mut self, walked: &Groups, i: u32)
-        requires { (walked.now.count ≤ 63) × (self.old.count + length (kept (starts_at i) (listed walked.now)) ≤ 63) }
+        requires { self.old.count + length (kept (starts_at i) (listed walked.now)) ≤ 63 }
         ensures size { self.new.count ≡ self.old.count + length (kept (starts_at i) (listed walked.now)) }
         ensures list { listed self.new ≡ listed self.old ++ kept (starts_at i) (listed walked.now) }
     {
@@ -61,7 +45,7 @@ impl Groups {
 
     // The same in file order: for each taxon, rising, those of which it is the lowest.
     pub fn in_order(&self, n: u32) -> Groups
-        requires { (self.now.count ≤ 63) × (length (ordered 64 n (listed self.now)) ≤ 63) }
+        requires { length (ordered 64 n (listed self.now)) ≤ 63 }
         ensures size { result.count ≡ length (ordered 64 n (listed self.now)) }
         ensures list { listed result ≡ ordered 64 n (listed self.now) }
     {
@@ -74,7 +58,7 @@ impl Groups {
 
     // The sum of their costs.
     pub fn total(&self) -> u32
-        requires { (self.now.count ≤ 63) × (total (listed self.now) < 2 ^ 32) }
+        requires { total (listed self.now) < 2 ^ 32 }
         ensures { result ≡ total (listed self.now) }
     {
         let mut total: u32 = 0;

@@ -2,7 +2,6 @@
 use native.Mathlib.Omega.{arith}
 use mathlib.Core.Path.{◌≡◌, refl, sym, ap, ◌∙◌}
 use lib.ListN.{length}
-use lib.Seq.{length-take-le}
 use Rattle.taxa.specs.Sets.{within, all}
 use Rattle.taxa.proofs.Members.{within_⊆}
 use Rattle.record.specs.Bytes.{File}
@@ -41,36 +40,6 @@ returns-then-workspace-needed c =
     let tested : within c.args.group (all c.args.n) ≡ c.subset.result = rw (← c.all.ensures) (sym c.subset.ensures) in
     (ap Err c.at-then-workspace-needed.ensures ∙ no_room _ _ _ _ _ (omega arith) (tested ∙ c.if-not-subset.false) (omega (arith, c.if-workspace-needed.true, c.one_entries-needed.ensures)), left_alone _ _ _)
 
-pub slice_bounds-weights-end : goal.slice_bounds-weights-end
-slice_bounds-weights-end c =
-    let bytes : File c.args.file.now = record { byte = λ i. omega (arith, c.type_inv.file i) } in
-    few_columns bytes c.requires
-
-pub slice_bounds-split_loaded-end : goal.slice_bounds-split_loaded-end
-slice_bounds-split_loaded-end c =
-    let bytes : File c.args.file.now = record { byte = λ i. omega (arith, c.type_inv.file i) } in
-    sym (length-take-le _ _ (few_columns bytes c.requires))
-
-pub slice_bounds-ones-end : goal.slice_bounds-ones-end
-slice_bounds-ones-end c =
-    let bytes : File c.args.file.now = record { byte = λ i. omega (arith, c.type_inv.file i) } in
-    few_columns bytes c.requires
-
-pub slice_bounds-split_loaded-end-2 : goal.slice_bounds-split_loaded-end-2
-slice_bounds-split_loaded-end-2 c =
-    let bytes : File c.args.file.now = record { byte = λ i. omega (arith, c.type_inv.file i) } in
-    sym (length-take-le _ _ (few_columns bytes c.requires))
-
-pub slice_bounds-zeros-end : goal.slice_bounds-zeros-end
-slice_bounds-zeros-end c =
-    let bytes : File c.args.file.now = record { byte = λ i. omega (arith, c.type_inv.file i) } in
-    few_columns bytes c.requires
-
-pub slice_bounds-split_loaded-end-3 : goal.slice_bounds-split_loaded-end-3
-slice_bounds-split_loaded-end-3 c =
-    let bytes : File c.args.file.now = record { byte = λ i. omega (arith, c.type_inv.file i) } in
-    sym (length-take-le _ _ (few_columns bytes c.requires))
-
 -- Here nothing is refused.
 pub split_loaded-requires : goal.split_loaded-requires
 split_loaded-requires c =
@@ -83,7 +52,7 @@ split_loaded-requires c =
       known = (within_⊆ _ _).0 (tested ∙ c.if-not-subset.false);
       long = omega (arith, c.if-workspace-needed.false, c.one_entries-needed.ensures);
     } in
-    (splittable, record { ones = refl; zeros = refl }, length-take-le _ _ (few_columns bytes c.requires), c.one_entries-needed.ensures)
+    (splittable, c.one_entries-needed.ensures)
 
 pub returns : goal.returns
 returns c =

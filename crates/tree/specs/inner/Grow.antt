@@ -1,5 +1,5 @@
 -- What the functions of the walk hand to each other.
-use Rattle.std.specs.Prelude.{◌≡◌, cond, List, [], ◌++◌, ℕ, ◌+◌, ◌*◌, ◌^◌, ◌≤◌, ◌<◌, ltb, ℤ, length, get_or, take, Result, Ok, Err, ⊤}
+use Rattle.std.specs.Prelude.{◌≡◌, cond, List, [], ◌++◌, ℕ, ◌+◌, ◌*◌, ◌^◌, ◌≤◌, ◌<◌, ltb, ℤ, length, get_or, Result, Ok, Err, ⊤}
 use Rattle.taxa.specs.Sets.{Positive, multiplicity_in, Tabled, count}
 use Rattle.matrix.specs.Matrix.{columns_at}
 use Rattle.matrix.specs.Check.{checked}
@@ -49,16 +49,6 @@ pub record Ready (ws P os zs : List ℕ) (S n : ℕ) (space : List ℤ) : Type 0
 pub record TurnsClear (ws P os zs Ps : List ℕ) (space : List ℤ) : Type 0 where
   pub clear : (mid : ℕ → Column) (Q : ℕ) → Turn 64 (multiplicity_in P) (length ws) (cols_of ws os zs) Ps mid Q → Clear (arc_count (length ws) mid Q) space
 
--- As many entries of a list as there are weights: those that stand for columns.
-abbrev pub entries_for : List ℕ → List ℕ → List ℕ
-entries_for ws xs = take (length ws) xs
-
--- m columns stand in front in three lists.
-pub record InFront (m : ℕ) (cols : ℕ → Column) (ws os zs : List ℕ) : Type 0 where
-  pub columns : cols_of (take m ws) (take m os) (take m zs) ≡ cols
-  pub parallel : Parallel (take m ws) (take m os) (take m zs)
-  pub sized : length (take m ws) ≡ m
-
 -- The walk from a group, on columns in three lists and multiplicities in planes.
 abbrev pub walk_from : List ℕ → List ℕ → List ℕ → List ℕ → ℕ → Walk
 walk_from ws P os zs S = build 64 (multiplicity_in P) (length ws) (cols_of ws os zs) S
@@ -83,17 +73,14 @@ pub record AllSmall (Ps : List ℕ) (n bound room : ℕ) : Type 0 where
 
 -- k groups as walked, whose list in file order fits 63 places and whose total fits 4 bytes.
 pub record Walked (n : ℕ) (walked paid : List ℕ) (k : ℕ) : Type 0 where
-  pub listed : k ≤ 63
   pub few : length (ordered 64 n (first_groups walked paid k)) ≤ 63
   pub small : total (ordered 64 n (first_groups walked paid k)) < 2 ^ 32
 
--- A file's m columns, and as many entries as there can be of what became of them.
-pub record Flipped (file os zs : List ℕ) (m : ℕ) : Type 0 where
+-- A file's m columns.
+pub record Flipped (file : List ℕ) (m : ℕ) : Type 0 where
   pub columns : m ≡ length (matrix_in file).columns
   pub few_columns : m ≤ 256
   pub whole : columns_at file + 22 * m ≤ length file
-  pub ones : length os ≡ 256
-  pub zeros : length zs ≡ 256
 
 -- The tree that an answer's value holds, whatever flips it counts.
 abbrev pub tree_of : Answer → Content
@@ -104,7 +91,7 @@ pub record Grew (file : List ℕ) (a : Answer) (os zs : List ℕ) : Type 0 where
   pub tree : tree_of a ≡ tree_for (matrix_in file)
   pub none : a.flips ≡ 0
   pub flips : flip_list a.m (column (matrix_in file).columns) (unweighed os zs) ≡ (answer (matrix_in file)).flips
-  pub flipped : Flipped file os zs a.m
+  pub flipped : Flipped file a.m
 
 -- What writing answers, with the total, as the build's answer.
 abbrev pub written_as : ℕ → Result ℕ Refusal → Result Built Refusal

@@ -16,9 +16,9 @@ list_flips-flips-requires c =
       p.whole,
       record {
         columns_room = p.few_columns;
-        raised_room = omega (arith, p.few_columns, p.ones);
+        raised_room = omega (arith, p.few_columns);
         lowered_room = omega
-            (arith, p.few_columns, p.zeros);
+            (arith, p.few_columns);
       },
     )
 
@@ -28,17 +28,17 @@ returns c =
     let a = c.args in
     let flips = c.list_flips-flips in
     let p = c.requires in
-    let few = list_few (column (matrix_in a.file.now).columns) (unweighed a.ones.now a.zeros.now) a.tree.m in
+    let few = list_few (column (matrix_in a.file.now).columns) (unweighed a.matrix.now.ones a.matrix.now.zeros) a.tree.m in
     let lists_long : listed flips.new.columns flips.new.ones flips.new.zeros ≡ 256 =
-    omega (arith, p.ones, p.zeros, flips.auto.columns, flips.auto.ones, flips.auto.zeros) in
+    omega (arith, flips.auto.columns, flips.auto.ones, flips.auto.zeros) in
     let room : FlipRoom flips.result flips.new.columns flips.new.ones flips.new.zeros = record {
       columns_room = omega (arith, p.few_columns, flips.ensures.size, flips.auto.columns);
-      raised_room = omega (arith, p.few_columns, p.ones, flips.ensures.size, flips.auto.ones);
-      lowered_room = omega (arith, p.few_columns, p.zeros, flips.ensures.size, flips.auto.zeros);
+      raised_room = omega (arith, p.few_columns, flips.ensures.size, flips.auto.ones);
+      lowered_room = omega (arith, p.few_columns, flips.ensures.size, flips.auto.zeros);
     } in
     answers_as c.write.ensures (whole_held a.tree room flips.ensures.size flips.ensures.list) lists_long c.as_built.ensures
 
 pub overflow_cast-whole : goal.overflow_cast-whole
 overflow_cast-whole c =
     let a = c.args in
-    omega (arith, c.list_flips-flips.ensures.size, list_few (column (matrix_in a.file.now).columns) (unweighed a.ones.now a.zeros.now) a.tree.m, c.requires.few_columns)
+    omega (arith, c.list_flips-flips.ensures.size, list_few (column (matrix_in a.file.now).columns) (unweighed a.matrix.now.ones a.matrix.now.zeros) a.tree.m, c.requires.few_columns)

@@ -7,10 +7,10 @@ use Rattle.tree.proofs.groups.grow_all.Goals as goal
 pub grow-requires : goal.grow-requires
 grow-requires c =
     let p = c.requires in
-    rw c.all.ensures (record {
+    rw c.all-everyone.ensures (record {
       ready = (
         p.ready,
-        omega (arith, count_le 64 (all c.args.n)),
+        omega (arith, count_le 64 (all c.args.matrix.now.n)),
       );
       room = p.room;
     })

@@ -8,6 +8,7 @@ use lib.ListN.{length, take}
 use lib.Seq.{length-take-le}
 use borrow.Rule.Slice.PartMut.{take_put}
 use Rattle.taxa.specs.Sets.{multiplicity_in, count}
+use Rattle.split.proofs.Standing.{kept_all, kept_on}
 use Rattle.tree.proofs.Walking.{going_room, going_next, going_end, one_taxon, still_listed, rest_length, loaded_as, part_ready, turns_on, ready_wide}
 use Rattle.tree.proofs.Opening.{search_given, listed_parts, listed_fits, parts_ready, parts_clear, parts_fit, grown_group, first_fits}
 use Rattle.tree.proofs.grow.+grow_walk.Goals as goal
@@ -17,20 +18,14 @@ use Rattle.tree.proofs.grow.+grow_walk.Goals as goal
 pub grow-returns-then-size-lt2 : goal.grow-returns-then-size-lt2
 grow-returns-then-size-lt2 t c =
     let p = c.requires.ready in
-    one_taxon (multiplicity_in c.args.planes.now) p.0.loaded.parallel (ready_wide p.0) (omega (arith, c.size-size.ensures))
+    (one_taxon (multiplicity_in c.args.matrix.now.planes) p.0.loaded.parallel (ready_wide p.0) (omega (arith, c.size-size.ensures)), kept_all _)
 
 -- The test of the size was passed: there are two taxa or more.
-pub grow-split_first-handed-requires : goal.grow-split_first-handed-requires
-grow-split_first-handed-requires t c =
+pub grow-split_group-handed-requires : goal.grow-split_group-handed-requires
+grow-split_group-handed-requires t c =
     let p = c.requires.ready in
-    let two : 1 < count 64 c.args.group = omega (arith, c.size-size.ensures) in (
-      search_given p.0 two,
-      p.0.loaded.parallel,
-      p.0.clear.long,
-      omega (arith, p.1),
-      omega (arith, p.0.loaded.columns),
-      omega (arith, p.0.loaded.columns),
-    )
+    let two : 1 < count 64 c.args.group = omega (arith, c.size-size.ensures) in
+    (search_given p.0 two, p.0.clear.long, omega (arith, p.1))
 
 pub grow-put-requires : goal.grow-put-requires
 grow-put-requires t c =
@@ -40,23 +35,24 @@ grow-put-requires t c =
 pub grow-walk-requires : goal.grow-walk-requires
 grow-walk-requires t c =
     let put = c.put in
-    let split = c.split_first-handed in
+    let split = c.split_group-handed in
     let ready = c.requires.ready.0 in
-    let handed = split.ensures in
+    let (handed, kept, cleared) = split.ensures in
     let two : 1 < count 64 c.args.group = omega (arith, c.size-size.ensures) in
-    let ps = listed_parts ready two handed.0 in
+    let ps = listed_parts ready two handed in
     let long = split.auto.list in
-    let fits = listed_fits ready two handed.0 long in (
+    let fits = listed_fits ready two handed long in
+    rw (kept.columns, kept.weights, kept.planes, kept.taxa) (
       omega (arith, c.size-size.ensures, c.decreases),
       (
         (
-          rw c.size-size.ensures (parts_ready ready two handed.0 _ ps (omega (arith, c.requires.ready.1, fits, long))),
+          rw c.size-size.ensures (parts_ready ready two handed _ ps (omega (arith, c.requires.ready.1, fits, long))),
           fits,
           omega arith,
         ),
         (
-          (loaded_as ready.loaded handed.0.parallel, parts_clear ready two handed.0 _ ps (handed.1 ∙ ready.clear.is)),
-          parts_fit ready two handed.0 _ _ ps put.ensures.size c.requires.room,
+          (loaded_as ready.loaded handed.parallel, parts_clear ready two handed _ ps (cleared ∙ ready.clear.is)),
+          parts_fit ready two handed _ _ ps put.ensures.size c.requires.room,
         ),
       ),
     )
@@ -65,10 +61,12 @@ pub grow-returns : goal.grow-returns
 grow-returns t c =
     let put = c.put.ensures in
     let ready = c.requires.ready.0 in
-    let handed = c.split_first-handed.ensures in
+    let (handed, kept, cleared) = c.split_group-handed.ensures in
     let two : 1 < count 64 c.args.group = omega (arith, c.size-size.ensures) in
-    let walk = c.walk.ensures in
-    (grown_group ready two handed.0 _ (listed_parts ready two handed.0) put.size (handed.1 ∙ ready.clear.is) put.list walk)
+    let (walk, kept') = c.walk.ensures in (
+      grown_group ready two handed _ (listed_parts ready two handed) put.size (cleared ∙ ready.clear.is) put.list (rw (kept.columns, kept.weights, kept.planes) at walk),
+      kept_on kept kept',
+    )
 
 -- ---- walk
 
@@ -77,18 +75,20 @@ walk-grow-requires t c =
     let l = c.loop-i in
     let a = c.args in
     let p = c.requires in
+    let (_, parallel, ws, long, list, going, turns, kept) = l.invariant in
     let all = length-take-le a.k a.list.now p.all_small.1 in
-    let here = still_listed a.k l.list a.list.now l.i l.invariant.4 (omega arith) in
+    let here = still_listed a.k l.list a.list.now l.i list (omega arith) in
     let now : l.i < length (take a.k a.list.now) = omega arith in
     let part = p.all_small.0 in
     let small = rw here at (part.small l.i now) in
     let fits = rw here at (part.fits l.i now) in
-    let room = rw here at (going_room _ _ l.invariant.5 now) in (
+    let room = rw here at (going_room _ _ going now) in
+    rw (kept.columns, kept.weights, kept.planes, kept.taxa) (
       omega (arith, c.decreases, small),
       (
         (
-          rw here at (part_ready (take a.k a.list.now) now l.invariant.6 p.loaded.0 l.invariant.1 (part.short l.i now) l.invariant.2),
-          omega (arith, fits, rest_length a.k l.list, l.invariant.3),
+          rw here at (part_ready (take a.k a.list.now) now turns p.loaded.0 parallel (part.short l.i now) ws),
+          omega (arith, fits, rest_length a.k l.list, long),
         ),
         omega (arith, p.room),
       ),
@@ -99,23 +99,26 @@ walk-loop-i-preserved t c =
     let l = c.loop-i in
     let a = c.args in
     let p = c.requires in
-    let g = c.grow.ensures in
+    let (_, parallel, ws, long, list, going, turns, kept) = l.invariant in
+    let g = rw (kept.columns, kept.weights, kept.planes) at c.grow.ensures.0 in
     let all = length-take-le a.k a.list.now p.all_small.1 in
-    let here = still_listed a.k l.list a.list.now l.i l.invariant.4 (omega arith) in
+    let here = still_listed a.k l.list a.list.now l.i list (omega arith) in
     let now : l.i < length (take a.k a.list.now) = omega arith in
-    let kept = take_put a.k (length l.list - a.k) l.list c.grow.new.list (omega arith) in (
+    let same = take_put a.k (length l.list - a.k) l.list c.grow.new.list (omega arith) in (
       search rules,
       g.parallel,
-      g.workspace ∙ l.invariant.2,
+      g.workspace ∙ ws,
       search rules,
-      kept ∙ l.invariant.4,
-      going_next _ _ l.invariant.5 now (rw here g.columns) (rw here g.groups) (rw here g.many),
-      turns_on (take a.k a.list.now) now l.invariant.6 (rw here g.columns),
+      same ∙ list,
+      going_next _ _ going now (rw here g.columns) (rw here g.groups) (rw here g.many),
+      turns_on (take a.k a.list.now) now turns (rw here g.columns),
+      kept_on kept c.grow.ensures.1,
     )
 
 pub walk-returns : goal.walk-returns
 walk-returns t c =
     let l = c.loop-i in
     let a = c.args in
-    let (columns, groups, many) = going_end _ _ l.invariant.5 (omega (arith, length-take-le a.k a.list.now c.requires.all_small.1)) in
-    record { columns = columns; parallel = l.invariant.1; groups = groups; many = many; workspace = l.invariant.2 }
+    let (_, parallel, ws, long, list, going, turns, kept) = l.invariant in
+    let (columns, groups, many) = going_end _ _ going (omega (arith, length-take-le a.k a.list.now c.requires.all_small.1)) in
+    (record { columns = columns; parallel = parallel; groups = groups; many = many; workspace = ws }, kept)

@@ -3,12 +3,12 @@
 use Prim.Native.Nat.{◌+◌, ◌-◌, ◌*◌, ◌≤◌}
 use mathlib.Core.Path.{◌≡◌}
 use lib.ListN.{length, take, drop}
-use Rattle.taxa.specs.Sets.{multiplicity_in, count}
+use Rattle.taxa.specs.Sets.{count}
 use Rattle.method.specs.Tree.{build}
 use Rattle.search.specs.Search.{cols_of}
-use Rattle.split.specs.inner.Handing.{Parallel}
+use Rattle.split.specs.inner.On.{weights, entries, columns, multiplicities, Parallel, Kept}
 use Rattle.tree.specs.Lists.{listed}
-use Rattle.tree.specs.inner.Grow.{entries_for, TurnsClear}
+use Rattle.tree.specs.inner.Grow.{TurnsClear}
 use Rattle.tree.proofs.Walking.{Going}
 use Rattle.tree.proofs.grow.+grow_walk.Given as goal
 
@@ -20,13 +20,14 @@ decreases-walk l = 2 * l.bound
 
 abbrev pub invariant-walk-loop-i : goal.invariant-walk-loop-i
 invariant-walk-loop-i l =
-    (l.i ≤ l.k) × Parallel l.weights (entries_for l.weights l.ones) (entries_for l.weights l.zeros) × (l.ws ≡ l.initial.ws) × (length l.list ≡ length l.initial.list)
+    let x = l.initial.matrix in
+    (l.i ≤ l.k) × Parallel x l.matrix × (l.ws ≡ l.initial.ws) × (length l.list ≡ length l.initial.list)
     × (take l.k l.list ≡ take l.k l.initial.list)
-    × Going (build 64 (multiplicity_in l.planes) (length l.weights)) (take l.k l.initial.list)
-    (cols_of l.weights (entries_for l.weights l.initial.ones) (entries_for l.weights l.initial.zeros))
-    (cols_of l.weights (entries_for l.weights l.ones) (entries_for l.weights l.zeros)) (listed l.initial.groups) (listed l.groups)
+    × Going (build 64 (multiplicities x) (length (weights x))) (take l.k l.initial.list) (columns x)
+    (cols_of (weights x) (entries x l.matrix.ones) (entries x l.matrix.zeros)) (listed l.initial.groups) (listed l.groups)
     l.initial.groups.count l.groups.count l.i
-    × TurnsClear l.weights l.planes (entries_for l.weights l.ones) (entries_for l.weights l.zeros) (drop l.i (take l.k l.initial.list)) l.initial.ws
+    × TurnsClear (weights x) x.planes (entries x l.matrix.ones) (entries x l.matrix.zeros) (drop l.i (take l.k l.initial.list)) l.initial.ws
+    × Kept x l.matrix
 
 abbrev pub decreases-walk-loop-i : goal.decreases-walk-loop-i
 decreases-walk-loop-i l = l.k - l.i

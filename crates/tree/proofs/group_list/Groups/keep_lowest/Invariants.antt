@@ -1,4 +1,4 @@
--- `order::Groups::keep_lowest` meets its contract. The invariant: what stands is what stood, and what is kept of the groups passed.
+-- `Groups::keep_lowest` meets its contract. The invariant: what stands is what stood, and what is kept of the groups passed.
 use mathlib.Core.Path.{◌≡◌}
 use mathlib.Core.List.{◌++◌}
 use Prim.Native.Nat.{◌+◌, ◌-◌, ◌≤◌}
@@ -6,7 +6,7 @@ use lib.ListN.{length}
 use Rattle.method.specs.Tree.{kept}
 use Rattle.tree.specs.Lists.{listed, first_groups}
 use Rattle.tree.specs.inner.Lists.{starts_at}
-use Rattle.tree.proofs.order.Groups.keep_lowest.Given as goal
+use Rattle.tree.proofs.group_list.Groups.keep_lowest.Given as goal
 
 abbrev pub invariant-loop-g : goal.invariant-loop-g
 invariant-loop-g l =

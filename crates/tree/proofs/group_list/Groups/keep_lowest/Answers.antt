@@ -1,4 +1,4 @@
--- `order::Groups::keep_lowest` meets its contract. The invariant: what stands is what stood, and what is kept of the groups passed.
+-- `Groups::keep_lowest` meets its contract. The invariant: what stands is what stood, and what is kept of the groups passed.
 use native.Mathlib.Omega.{arith}
 use mathlib.Core.Path.{sym, ◌∙◌}
 use mathlib.Core.List.{append-nil, append_assoc}
@@ -6,8 +6,8 @@ use Rattle.method.specs.Tree.{kept}
 use Rattle.tree.specs.Lists.{first_groups}
 use Rattle.tree.specs.inner.Lists.{starts_at}
 use Rattle.tree.proofs.Lists.{kept_next, kept_size, kept_room}
-use Rattle.tree.proofs.order.Groups.keep_lowest.Goals as goal
-use Rattle.tree.proofs.order.Groups.keep_lowest.Goals.{then-starts_at, else-starts_at}
+use Rattle.tree.proofs.group_list.Groups.keep_lowest.Goals as goal
+use Rattle.tree.proofs.group_list.Groups.keep_lowest.Goals.{then-starts_at, else-starts_at}
 
 pub loop-g-init : goal.loop-g-init
 unfolding first_groups kept

@@ -1,8 +1,8 @@
--- `order::Groups::put` meets its contract: two stores make one group more.
+-- `Groups::put` meets its contract: two stores make one group more.
 use native.Mathlib.Omega.{arith}
 use mathlib.Core.Path.{refl}
 use Rattle.tree.proofs.Lists as lists
-use Rattle.tree.proofs.order.Groups.put.Goals as goal
+use Rattle.tree.proofs.group_list.Groups.put.Goals as goal
 
 pub returns : goal.returns
 returns c = record { size = refl; list = lists.put_group _ _ _ _ _ (omega arith) (omega arith) }

@@ -1,4 +1,4 @@
--- `order::Groups::total` meets its contract. The invariant: the total is that of the groups passed.
+-- `Groups::total` meets its contract. The invariant: the total is that of the groups passed.
 use native.Mathlib.Omega.{arith}
 use mathlib.Core.Path.{◌≡◌, refl, sym, ◌∙◌}
 use Prim.Native.Nat.{ℕ, ◌+◌}
@@ -6,7 +6,7 @@ use lib.ListN.{get_or}
 use Rattle.taxa.specs.Sum.{sum}
 use Rattle.taxa.proofs.Sums.{sum_next, sum_mono}
 use Rattle.tree.proofs.Lists.{total_of}
-use Rattle.tree.proofs.order.Groups.total.Goals as goal
+use Rattle.tree.proofs.group_list.Groups.total.Goals as goal
 
 pub loop-i-init : goal.loop-i-init
 unfolding sum
@@ -17,7 +17,7 @@ overflow_add-total c =
     let l = c.loop-i in
     let s = c.args.self.now in
     let g : ℕ → ℕ = λ i. get_or s.costs i 0 in
-    omega (arith, c.requires.1, total_of s.taxa s.costs s.count, sum_next l.i g, sum_mono g {j = l.i + 1} {k = s.count} (omega arith))
+    omega (arith, c.requires, total_of s.taxa s.costs s.count, sum_next l.i g, sum_mono g {j = l.i + 1} {k = s.count} (omega arith))
 
 pub loop-i-preserved : goal.loop-i-preserved
 loop-i-preserved c = (omega arith, rw (sum_next, ← c.loop-i.invariant.1))
