@@ -1,5 +1,5 @@
 -- The operation "split": the rows of its table, what the search is given and finds, and what is left of the workspace.
-use mathlib.Core.Path.{◌≡◌, refl, sym, ap, ◌∙◌}
+use mathlib.Core.Path.{◌≡◌, refl, sym, ap, ◌∙◌, subst}
 use mathlib.Core.Bool.{Bool, true, false, ◌||◌}
 use mathlib.Core.List.{List}
 use Prim.Native.Nat.{ℕ, ◌^◌, ◌≤◌, ◌<◌}
@@ -8,7 +8,7 @@ use lib.Dec.{ltb}
 use lib.IntN.{ℤ}
 use lib.ListN.{length}
 use borrow.Author.Tests.{lt-ltb, le-ltb}
-use Rattle.taxa.specs.Sets.{within, count, all}
+use Rattle.taxa.specs.Sets.{within, count, all, Positive}
 use Rattle.taxa.proofs.Members.{⊆-≤, all_<, within_⊆}
 use Rattle.taxa.proofs.Counts.{count_width}
 use Rattle.record.specs.Bytes.{File}
@@ -26,7 +26,7 @@ use Rattle.split.specs.declared.loaded.Loaded.{Loaded}
 use Rattle.split.specs.Columns.{matrix_in}
 use Rattle.split.specs.Groups.{IsSplit}
 use Rattle.split.specs.Operation.{split_of, no_group, answered, divided, workspace_after, returned, split_numbers}
-use Rattle.split.proofs.Soundness.{taken_count, few_taxa, few_columns}
+use Rattle.split.proofs.Soundness.{taken_count, few_taxa, few_columns, taken_sound}
 use Rattle.std.specs.Prelude.{Result, Ok, Err}
 use Rattle.matrix.specs.Check.{shape}
 use Rattle.record.specs.declared.refusal.Reason.TheVariants as reason
@@ -84,7 +84,7 @@ module _ {file : List ℕ} {S n m room : ℕ} (f : File file) (s : Splittable fi
           zeros = omega (arith, h.parallel.zeros);
           group = rw h.taxa_are below_n;
           two = rw h.taxa_are two_of_n;
-          positive = h.positive;
+          positive = subst Positive (sym h.stand_for) (taken_sound f s.taken).positive;
           tabled = h.tabled;
         }
 

@@ -1,21 +1,27 @@
 -- The matrix in a file that the check takes is sound, as all theorems of the method ask (`taken_sound`), and its taxa and columns are counted by n and m.
-use mathlib.Core.Path.{◌≡◌, sym, subst, ◌∙◌}
+use mathlib.Core.Path.{◌≡◌, sym, ◌∙◌, refl}
 use mathlib.Core.List.{List}
 use Prim.Native.Nat.{ℕ, ◌+◌, ◌*◌, ◌≤◌, ◌<◌}
 use native.Mathlib.Omega.{arith}
 use lib.ListN.{length, length-map}
-use Rattle.taxa.specs.Sets.{Positive, multiplicity, multiplicity_in}
+use Rattle.taxa.specs.Sets.{multiplicity, multiplicity_in}
 use Rattle.taxa.proofs.Members.{∩-disjoint}
 use Rattle.record.specs.Bytes.{File}
 use Rattle.matrix.specs.Check.{checked}
+use Rattle.matrix.specs.inner.Planes.{Multiplied}
 use Rattle.matrix.specs.Matrix.{multiplicities_in, columns_at, column_in, LegalColumn, matrix_of}
-use Rattle.matrix.proofs.Taken.{taken_length, taken_taxa, taken_columns, taken_legal, taken_column}
+use Rattle.matrix.proofs.Taken.{taken_length, taken_taxa, taken_columns, taken_legal, taken_column, taken_multiplied}
 use Rattle.matrix.proofs.Multiplying.{legal_positive, legal_merged}
 use Rattle.method.specs.Tree.{Sound, column}
 use Rattle.split.specs.Columns.{column_of, matrix_in}
 use Rattle.split.proofs.Loading.{file_column}
 use Rattle.std.specs.Prelude.{Ok}
 use Rattle.matrix.specs.Check.{shape}
+
+-- Planes that were read off a file hold its multiplicities.
+pub read_multiplicities : (file P : List ℕ) → multiplicity_in P ≡ multiplicity (multiplicities_in file) → multiplicity_in P ≡ multiplicity (matrix_in file).multiplicities
+unfolding matrix_of
+read_multiplicities file P are = are
 
 module _ {file : List ℕ} (f : File file) {n m : ℕ} (taken : Ok (shape n m) ≡ checked file) where
   pub taken_count : length (matrix_in file).columns ≡ m
@@ -35,14 +41,9 @@ module _ {file : List ℕ} (f : File file) {n m : ℕ} (taken : Ok (shape n m) �
   pub can_load : {k : ℕ} → k ≡ m → (k ≡ length (matrix_in file).columns) × (columns_at file + 22 * k ≤ length file)
   can_load long = (long ∙ sym taken_count, omega (arith, taken_length f taken))
 
-  -- Planes that were read off the file hold its multiplicities, of which none is 0.
-  module _ (P : List ℕ) (are : multiplicity_in P ≡ multiplicity (multiplicities_in file)) where
-    pub read_multiplicities : multiplicity_in P ≡ multiplicity (matrix_in file).multiplicities
-    unfolding matrix_of
-    read_multiplicities = are
-
-    pub read_positive : Positive (multiplicity_in P)
-    read_positive = subst Positive (sym read_multiplicities) (legal_positive (taken_legal f taken))
+  -- What the loading of the file asks for.
+  pub loads : (m ≡ length (matrix_in file).columns) × (columns_at file + 22 * m ≤ length file) × Multiplied file × (n ≤ 64) × (m ≤ 256)
+  loads = let fits = can_load refl in (fits.0, fits.1, taken_multiplied f taken, few_taxa, few_columns)
 
   -- What the check has seen of a column.
   seen : {c : ℕ} → c < length (matrix_in file).columns → (column (matrix_in file).columns c ≡ column_of (column_in file c)) × LegalColumn (matrix_in file).taxa (column_in file c)

@@ -1,8 +1,8 @@
 // The columns of a matrix: loaded from a file, and flipped by a division.
 ghost use Rattle.std.specs.Prelude.{◌≡◌, ◌+◌, ◌*◌, ◌≤◌, length};
 ghost use Rattle.taxa.specs.Sets.{◌∩◌, mass, multiplicity_in};
-ghost use Rattle.matrix.specs.Check.{shape, checked};
 ghost use Rattle.matrix.specs.Matrix.{columns_at};
+ghost use Rattle.matrix.specs.inner.Planes.{Multiplied};
 ghost use Rattle.method.specs.Split as method;
 ghost use Rattle.method.specs.Tree.{one_entries};
 ghost use Rattle.split.specs.Columns.{column_of, matrix_in};
@@ -74,7 +74,11 @@ fn flip(planes: &[u64; 72], it: Column, group: u64, side: u64) -> Column
 impl Loaded {
     // The taxa and columns of a file that the check takes.
     pub fn load(&mut self, file: &[u8], n: usize, m: usize)
-        requires { Ok (shape n m) ≡ checked file.now }
+        requires { (m ≡ length (matrix_in file.now).columns)
+            × (columns_at file.now + 22 * m ≤ length file.now)
+            × Multiplied file.now
+            × (n ≤ 64)
+            × (m ≤ 256) }
         ensures { on.Holds file.now n m self.new }
     {
         self.n = n;

@@ -1,5 +1,5 @@
 // A matrix as it is loaded and flipped.
-ghost use Rattle.std.specs.Prelude.{◌≤◌};
+ghost use Rattle.std.specs.Prelude.{◌≡◌, ◌≤◌};
 
 // n taxa, with the planes that tell what each stands for, and m columns, each an entry in front in three lists: a split flips ones and zeros in place.
 #[derive(Drop)]
@@ -16,7 +16,9 @@ pub struct Loaded {
 
 impl Loaded {
     // Room for a matrix: so far it has no taxon and no column.
-    pub fn new() -> Loaded {
+    pub fn new() -> Loaded
+        ensures { (result.n ≡ 0) × (result.m ≡ 0) }
+    {
         Loaded {
             planes: [0; 72],
             weights: [0; 256],

@@ -2,10 +2,11 @@
 use native.Mathlib.Omega.{arith}
 use Rattle.record.specs.Bytes.{File}
 use Rattle.split.proofs.Answering.{given, found, arcs_fit, still_cleared}
+use Rattle.split.proofs.Soundness.{loads}
 use Rattle.split.proofs.split_loaded.Goals as goal
 
 pub load-requires : goal.load-requires
-load-requires c = c.requires.0.taken
+load-requires c = loads (record { byte = λ i. omega (arith, c.type_inv.file i) }) c.requires.0.taken
 
 -- The search of the group uses no more numbers than were cleared.
 pub divide-requires : goal.divide-requires

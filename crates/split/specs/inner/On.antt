@@ -1,6 +1,6 @@
 -- What the files beside this one say of lists, said of a `Loaded` matrix.
 use Rattle.std.specs.Prelude.{◌≡◌, List, ℕ, length, take}
-use Rattle.taxa.specs.Sets.{Positive, multiplicity, multiplicity_in, Tabled}
+use Rattle.taxa.specs.Sets.{multiplicity, multiplicity_in, Tabled}
 use Rattle.method.specs.Split.{Column}
 use Rattle.method.specs.Flow.{arc_count}
 use Rattle.method.specs.Tree as method
@@ -56,5 +56,4 @@ pub record Holds (file : List ℕ) (n m : ℕ) (x : Loaded) : Type 0 where
   pub parallel : Parallel x x
   pub is : columns x ≡ method.column (matrix_in file).columns
   pub stand_for : multiplicities x ≡ multiplicity (matrix_in file).multiplicities
-  pub positive : Positive (multiplicities x)
   pub tabled : Tabled x.planes

@@ -2,13 +2,14 @@
 use native.Mathlib.Omega.{arith}
 use mathlib.Core.Path.{refl, ◌∙◌}
 use Rattle.record.specs.Bytes.{File}
+use Rattle.split.proofs.Soundness.{loads}
 use Rattle.tree.proofs.Building.{lent_ready, lent_fits, to_order, has_grown}
 use Rattle.tree.proofs.groups.grow_tree.Goals as goal
 
 -- ---- what the calls ask for
 
 pub load-requires : goal.load-requires
-load-requires c = c.requires.0.taken
+load-requires c = loads (record { byte = λ i. omega (arith, c.type_inv.file i) }) c.requires.0.taken
 
 pub grow_all-requires : goal.grow_all-requires
 grow_all-requires c =
