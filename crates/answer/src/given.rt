@@ -1,4 +1,5 @@
-// Writing's tests: those of reading, on what is given, each record placed as in the file.
+// Writing's tests: those of reading, on what is given, each record placed as in the file. (Loops of their own: reading takes its values out of the file as it
+// goes. Each judgement is one function for both, in rules.rt.)
 ghost use Rattle.std.specs.Prelude.{◌≡◌, ◌≤◌, ◌+◌, length};
 ghost use Rattle.record.specs.Records.{payload};
 ghost use Rattle.answer.specs.Content.{content_of};

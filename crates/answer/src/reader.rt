@@ -96,7 +96,7 @@ fn taxa_in(file: &[u8], groups: usize) -> [u64; 63]
     taxa
 }
 
-// Their split costs.
+// Their split costs. (A loop beside the one for taxa: numbers of another width, at another place of a group.)
 fn costs_in(file: &[u8], groups: usize) -> [u32; 63]
     requires { (groups ≤ 63) × (16 + 16 * groups ≤ length file.now) }
     ensures { result ≡ padded (costs_in file.now groups) }

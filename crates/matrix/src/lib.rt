@@ -156,7 +156,7 @@ fn pass_columns(here: Cursor, file: &[u8], all: u64, m: u16) -> Result<Cursor, R
     Ok(cursor)
 }
 
-// The end record, and nothing after it.
+// The end record, and nothing after it. (Names have one of their own: what the two share is `nothing_after`.)
 fn pass_end(here: Cursor, file: &[u8]) -> Result<Cursor, Refusal>
     ensures { result ≡ check.end_passed file.now here }
 {

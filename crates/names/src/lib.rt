@@ -100,7 +100,7 @@ fn pass_name(here: Cursor, file: &[u8], count: usize) -> Result<Cursor, Refusal>
     Ok(next)
 }
 
-// The end record, and nothing after it.
+// The end record, and nothing after it. (A matrix has one of its own: what the two share is `nothing_after`.)
 fn pass_end(here: Cursor, file: &[u8]) -> Result<Cursor, Refusal>
     ensures { result ≡ check.end_passed file.now here }
 {

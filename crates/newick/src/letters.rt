@@ -42,7 +42,7 @@ impl Letters {
         4
     }
 
-    // The end of the letters that start at a place, one by one.
+    // The end of the letters that start at a place, one by one. (A scan up to the first that is none: no index is counted to an end that is known.)
     fn end_one_by_one(&self, text: &[u8], from: usize) -> usize
         requires { from ≤ length text.now }
         ensures { Run is_letter text.now from result }

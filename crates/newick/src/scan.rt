@@ -8,7 +8,7 @@ ghost use Rattle.newick.specs.inner.Names.{Placed, names_in};
 
 use super::Book;
 
-// The end of the blanks that start at a place.
+// The end of the blanks that start at a place. (A scan, as for letters.)
 pub fn after_blanks(text: &[u8], from: usize) -> usize
     requires { from ≤ length text.now }
     ensures { Run is_blank text.now from result }

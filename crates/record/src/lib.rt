@@ -23,6 +23,7 @@ pub struct Record {
 }
 
 impl Record {
+    // Numbers and no enum: document 01 has each kind's number as a named constant of the record type.
     pub const MATRIX_HEAD: u16 = 1;
 
     pub const COLUMN: u16 = 2;

@@ -71,9 +71,7 @@ pub fn clear(ws: &mut [i32], len: usize)
     requires { len ≤ length ws.old }
     ensures { ws.new ≡ cleared len ws.old }
 {
-    for i in 0..len {
-        ws[i] = 0;
-    }
+    ws[..len].fill(0);
 }
 
 // The places of the first m columns become 0, and the rest stay.

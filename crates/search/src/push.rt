@@ -35,9 +35,7 @@ pub fn unused(used: &mut [u32; 256], m: usize)
     requires { m ≤ 256 }
     ensures { Unused used.new m }
 {
-    for c in 0..m {
-        used[c] = 0;
-    }
+    used[..m].fill(0);
 }
 
 impl Network<'_> {

@@ -15,7 +15,7 @@ pub const TIES: usize = 256;
 
 const ENDS: usize = 320;
 
-// No taxon is tied.
+// No taxon is tied. (By index: that `fill` of a part in the middle leaves what stands before it was not proved.)
 fn untied(limits: &mut [u32; 320])
     ensures { SameLimits limits.old limits.new
         × ((u : ℕ) → u < 64 → nth limits.new (256 + u) ≡ 0) }

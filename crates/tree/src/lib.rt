@@ -88,7 +88,7 @@ pub fn build(file: &[u8], workspace: &mut [i32], out: &mut [u8]) -> Result<Built
     build_taken(file, n, m, workspace, out)
 }
 
-// A matrix that is taken: the refusals of the workspace and of the output, and else its tree.
+// A matrix that is taken: the refusals of the workspace and of the output, and else its tree. (Beside `build_taken`: other room, other writing, another promise.)
 fn tree_taken(
     file: &[u8],
     n: u16,
