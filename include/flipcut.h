@@ -12,9 +12,9 @@
  * kept after a call, and nothing is written but what is said to be. What is
  * written must not overlap anything else that the same call is given.
  *
- * Stack: a call of the build takes 32,224 bytes at most, of the tree 32,240, of
- * the flips 33,328, of the split 12,160, of the reading 8,872, of the writing
- * 8,008, of the score 3,272, of the check 104. Measured on x86-64 for 64 taxa
+ * Stack: a call of the build takes 26,176 bytes at most, of the tree 26,224, of
+ * the flips 27,328, of the split 11,824, of the reading 8,920, of the writing
+ * 7,992, of the score 3,544, of the check 88. Measured on x86-64 for 64 taxa
  * and 256 columns, the most there can be; every release keeps below 40 KiB for
  * the first three, 12 for the next three, 4 for the score and 1 for the check.
  */
