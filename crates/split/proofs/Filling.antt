@@ -32,3 +32,8 @@ module _ {f : ℕ → ℕ} where
     fill_front m {g} l fits same z x =
         by_cases (dec_lt x m) (λ b. get_or-take m new x 0 b ∙ h.done x (omega arith) ∙ same x b)
         (λ n. let far : m ≤ x = omega arith in get_or-eq_default (take m new) 0 (omega (arith, length-take-le m new (omega (arith, h.long)))) ∙ rw (z x far))
+
+    -- Filled to its end, it is f, where f is 0 past the end.
+    pub fill_all : length old ≤ c → ((x : ℕ) → length old ≤ x → f x ≡ 0) → (x : ℕ) → get_or new x 0 ≡ f x
+    fill_all l z x =
+        by_cases (dec_lt x c) (λ b. h.done x b) (λ n. let far : length old ≤ x = omega arith in get_or-eq_default new 0 (omega (arith, h.long)) ∙ rw (z x far))

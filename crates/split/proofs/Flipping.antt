@@ -4,8 +4,7 @@ use mathlib.Core.List.{List}
 use mathlib.Core.Logic.{⊎_elim}
 use Prim.Native.Nat.{ℕ, ◌+◌, ◌≤◌, ◌<◌, min}
 use native.Mathlib.Omega.{arith}
-use lib.ListN.{length, get_or, set, take, get_or-eq_default}
-use lib.Seq.{get_or-take, length-take-le}
+use lib.ListN.{length, get_or, set, get_or-eq_default}
 use borrow.Author.Tests.{le-leb, lt-leb}
 use Rattle.taxa.specs.Sets.{◌∩◌, ◌∪◌, ◌∖◌, mass}
 use Rattle.taxa.proofs.Members.{in∩, in∖, in∪, none, empty}
@@ -15,7 +14,8 @@ use Rattle.method.proofs.Flips.{Flip, up, left, right, flip_is}
 use Rattle.method.proofs.Entries.{flip_weight}
 use Rattle.search.specs.Search.{cols_of}
 use Rattle.split.specs.Columns.{column_of}
-use Rattle.split.proofs.Filling.{Filled, fill_one, fill_front}
+use Rattle.split.specs.inner.Handing.{Parallel}
+use Rattle.split.proofs.Filling.{Filled, fill_one, fill_all}
 
 -- ---- the rows of the method's table
 
@@ -75,37 +75,31 @@ module _ (μ : ℕ → ℕ) (ws os₀ zs₀ : List ℕ) (S A : ℕ) where
     pub ones : Filled (λ x. (new x).ones) os₀ os c
     pub zeros : Filled (λ x. (new x).zeros) zs₀ zs c
 
-  -- The m columns in front.
-  abbrev front : ℕ → ℕ → Column
-  front m = cols_of (take m ws) (take m os₀) (take m zs₀)
-
-  within : (m x : ℕ) → x < m → old x ≡ front m x
-  unfolding cols_of
-  within m x b = sym (λ i. record { weight = get_or-take m ws x 0 b i; ones = get_or-take m os₀ x 0 b i; zeros = get_or-take m zs₀ x 0 b i })
-
-  past : (m x : ℕ) → m ≤ length os₀ → m ≤ length zs₀ → m ≤ x → ((flip 64 μ S A (front m x)).ones ≡ 0) × ((flip 64 μ S A (front m x)).zeros ≡ 0)
-  unfolding cols_of
-  past m x lo lz b =
-      flip_nothing 64 μ S A (front m x) (get_or-eq_default (take m os₀) 0 (omega (arith, length-take-le m os₀ lo)))
-      (get_or-eq_default (take m zs₀) 0 (omega (arith, length-take-le m zs₀ lz)))
-
-  module _ {os zs : List ℕ} {c : ℕ} (f : Flipping os zs c) where
-    pub flip_next : {r : matrix.Column} → c < length os₀ → c < length zs₀ → column_of r ≡ flip 64 μ S A (cols_of ws os zs c)
-        → Flipping (set os c r.ones) (set zs c r.zeros) (c + 1)
+  module _ (p : Parallel ws os₀ zs₀) where
+    past : (x : ℕ) → length ws ≤ x → ((new x).ones ≡ 0) × ((new x).zeros ≡ 0)
     unfolding cols_of
-    flip_next {r} lo lz e =
-        let same : cols_of ws os zs c ≡ old c = λ i. record { weight = get_or ws c 0; ones = f.ones.left c (omega arith) i; zeros = f.zeros.left c (omega arith) i } in
-        let flips : column_of r ≡ new c = e ∙ ap (flip 64 μ S A) same in
-        record {
-          ones = fill_one f.ones lo (ap (λ (d : Column). d.ones) flips);
-          zeros = fill_one f.zeros lz (ap (λ (d : Column). d.zeros) flips);
-        }
+    past x b = flip_nothing 64 μ S A (old x) (get_or-eq_default os₀ 0 (omega arith)) (get_or-eq_default zs₀ 0 (omega arith))
 
-    pub all_flipped : (m : ℕ) → m ≤ c → m ≤ length os₀ → m ≤ length zs₀ → cols_of (take m ws) (take m os) (take m zs) ≡ flipped 64 μ m (front m) S A
-    unfolding flipped cols_of
-    all_flipped m b lo lz =
-        fun_ext (λ x i. record {
-          weight = sym (flip_weight 64 μ S A (front m x)) i;
-          ones = fill_front f.ones m b lo (λ y l. ap (λ (d : Column). (flip 64 μ S A d).ones) (within m y l)) (λ y l. (past m y lo lz l).0) x i;
-          zeros = fill_front f.zeros m b lz (λ y l. ap (λ (d : Column). (flip 64 μ S A d).zeros) (within m y l)) (λ y l. (past m y lo lz l).1) x i;
-        })
+    module _ {os zs : List ℕ} {c : ℕ} (f : Flipping os zs c) where
+      pub flip_next : {r : matrix.Column} → c < length ws → column_of r ≡ flip 64 μ S A (cols_of ws os zs c)
+          → Flipping (set os c r.ones) (set zs c r.zeros) (c + 1)
+      unfolding cols_of
+      flip_next {r} b e =
+          let same : cols_of ws os zs c ≡ old c = λ i. record { weight = get_or ws c 0; ones = f.ones.left c (omega arith) i; zeros = f.zeros.left c (omega arith) i } in
+          let flips : column_of r ≡ new c = e ∙ ap (flip 64 μ S A) same in
+          record {
+            ones = fill_one f.ones (omega arith) (ap (λ (d : Column). d.ones) flips);
+            zeros = fill_one f.zeros (omega arith) (ap (λ (d : Column). d.zeros) flips);
+          }
+
+      pub all_flipped : length ws ≤ c → cols_of ws os zs ≡ flipped 64 μ (length ws) old S A
+      unfolding flipped cols_of
+      all_flipped b =
+          fun_ext (λ x i. record {
+            weight = sym (flip_weight 64 μ S A (old x)) i;
+            ones = fill_all f.ones (omega arith) (λ y l. (past y (omega arith)).0) x i;
+            zeros = fill_all f.zeros (omega arith) (λ y l. (past y (omega arith)).1) x i;
+          })
+
+      pub still_parallel : Parallel ws os zs
+      still_parallel = record { ones = omega arith; zeros = omega arith }

@@ -1,11 +1,13 @@
 // The columns of a matrix: loaded from a file, and flipped by a division.
-ghost use Rattle.std.specs.Prelude.{◌≡◌, ◌+◌, ◌*◌, ◌≤◌, length};
+ghost use Rattle.std.specs.Prelude.{◌≡◌, ◌+◌, ◌*◌, ◌≤◌, length, take};
 ghost use Rattle.taxa.specs.Sets.{◌∩◌, mass, multiplicity_in};
 ghost use Rattle.matrix.specs.Matrix.{columns_at};
 ghost use Rattle.matrix.specs.inner.Planes.{Multiplied};
 ghost use Rattle.method.specs.Split as method;
 ghost use Rattle.method.specs.Tree.{one_entries};
 ghost use Rattle.split.specs.Columns.{column_of, matrix_in};
+ghost use Rattle.search.specs.Search.{cols_of};
+ghost use Rattle.split.specs.inner.Handing.{Parallel};
 ghost use Rattle.split.specs.inner.On as on;
 
 use crate::loaded::Loaded;
@@ -71,6 +73,57 @@ fn flip(planes: &[u64; 72], it: Column, group: u64, side: u64) -> Column
     lower(it, rest)
 }
 
+// Every column flipped by a division of the group.
+pub fn flip_columns(
+    weights: &[u16],
+    planes: &[u64; 72],
+    ones: &mut [u64],
+    zeros: &mut [u64],
+    group: u64,
+    side: u64,
+)
+    requires { Parallel weights.now ones.old zeros.old }
+    ensures { (cols_of weights.now ones.new zeros.new
+        ≡ method.flipped 64 (multiplicity_in planes.now) (length weights.now) (cols_of weights.now ones.old zeros.old) group side)
+        × Parallel weights.now ones.new zeros.new }
+{
+    for c in 0..weights.len() {
+        let it = Column {
+            weight: weights[c],
+            ones: ones[c],
+            zeros: zeros[c],
+        };
+        let new = flip(planes, it, group, side);
+        ones[c] = new.ones;
+        zeros[c] = new.zeros;
+    }
+}
+
+// The same of the m columns in front: of an array that is a field no part can be lent to be written.
+fn flip_front(
+    weights: &[u16; 256],
+    planes: &[u64; 72],
+    ones: &mut [u64; 256],
+    zeros: &mut [u64; 256],
+    m: usize,
+    group: u64,
+    side: u64,
+)
+    requires { m ≤ 256 }
+    ensures { (cols_of (take m weights.now) (take m ones.new) (take m zeros.new)
+        ≡ method.flipped 64 (multiplicity_in planes.now) m (cols_of (take m weights.now) (take m ones.old) (take m zeros.old)) group side)
+        × Parallel (take m weights.now) (take m ones.new) (take m zeros.new) }
+{
+    flip_columns(
+        &weights[..m],
+        planes,
+        &mut ones[..m],
+        &mut zeros[..m],
+        group,
+        side,
+    );
+}
+
 impl Loaded {
     // The taxa and columns of a file that the check takes.
     pub fn load(&mut self, file: &[u8], n: usize, m: usize)
@@ -98,15 +151,14 @@ impl Loaded {
             × on.Parallel self.old self.new
             × on.Kept self.old self.new }
     {
-        for c in 0..self.m {
-            let it = Column {
-                weight: self.weights[c],
-                ones: self.ones[c],
-                zeros: self.zeros[c],
-            };
-            let new = flip(&self.planes, it, group, side);
-            self.ones[c] = new.ones;
-            self.zeros[c] = new.zeros;
-        }
+        flip_front(
+            &self.weights,
+            &self.planes,
+            &mut self.ones,
+            &mut self.zeros,
+            self.m,
+            group,
+            side,
+        );
     }
 }
