@@ -1,12 +1,16 @@
--- `Loaded::divide` meets its contract: what the search finds is the method's split, and the numbers that it used are cleared.
+-- `Loaded::divide` meets its contract, by that over slices.
 use native.Mathlib.Omega.{arith}
-use Rattle.split.proofs.Dividing.{found_split, used_cleared}
 use Rattle.split.proofs.Standing.{sized}
 use Rattle.split.proofs.loaded.Loaded.divide.Goals as goal
+
+pub divide-requires : goal.divide-requires
+divide-requires c =
+    let x = c.args.self.now in
+    let all = sized x x.weights (omega arith) in
+    (rw all at c.requires.0, rw all at c.requires.1)
 
 pub returns : goal.returns
 returns c =
     let x = c.args.self.now in
     let all = sized x x.weights (omega arith) in
-    let (found, arcs, kept) = c.divide-found.ensures in
-    (found_split (rw all at c.requires.0) found, rw all (used_cleared arcs kept c.clear_places.ensures))
+    (c.divide.ensures.0, rw all c.divide.ensures.1)
