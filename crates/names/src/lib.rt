@@ -5,6 +5,7 @@
 
 ghost use Rattle.std.specs.Prelude.{◌≡◌, ◌<◌, length};
 ghost use Rattle.record.specs.Bytes.{equal};
+ghost use Rattle.grammar.specs.Bytes.{is_letter};
 ghost use Rattle.grammar.specs.Limits.{is_in};
 ghost use Rattle.names.specs.Names.{name_at};
 ghost use Rattle.names.specs.Check as check;
@@ -35,12 +36,22 @@ fn any_name() -> Varying
     }
 }
 
+// Whether a byte may stand in a name. (Most are small letters, so these are told first.)
+fn may_stand(byte: u8) -> bool
+    ensures { result ≡ is_letter byte }
+{
+    if b'a' <= byte && byte <= b'z' {
+        return true;
+    }
+    grammar::is_letter(byte)
+}
+
 // Whether each byte may stand in a name.
 fn is_spelt(name: &[u8]) -> bool
     ensures { result ≡ spelt name.now }
 {
     for &byte in name {
-        if !grammar::is_letter(byte) {
+        if !may_stand(byte) {
             return false;
         }
     }
