@@ -9,19 +9,14 @@ static Split plain_search(uint64_t group) { return plain(weights, ones, zeros, g
 // Writes cost, side and t to out; each slice is a pointer and a length, each array a pointer. The planes are those of multiplicities that are all 1.
 static const uint64_t planes[72] = {[8 ... 71] = 1};
 extern void search_group(const uint16_t *w, uint64_t, const uint64_t *planes, const uint64_t *ones, uint64_t, const uint64_t *zeros, uint64_t, uint64_t group,
-                         uint64_t n, uint64_t m, int32_t *ws, uint64_t, uint64_t *joined, uint32_t *limits, uint16_t *offsets, uint32_t *used, uint32_t *tree,
-                         uint64_t *out, uint64_t);
+                         uint64_t n, uint64_t m, int32_t *ws, uint64_t, uint32_t *paths, uint64_t *out, uint64_t);
 
-// The lists that the crate lends for all groups of a tree.
-static struct {
-    uint64_t joined[256];
-    uint32_t limits[320], used[256], tree[256];
-    uint16_t offsets[257];
-} lent;
+// Of the crate's lists the one that tells a search how the last path went: it stands from group to group.
+static uint32_t paths[256];
 
 static Split search(uint64_t group) {
     uint64_t out[3];
-    search_group(weights, M, planes, ones, M, zeros, M, group, N, M, ws, N * M, lent.joined, lent.limits, lent.offsets, lent.used, lent.tree, out, 3);
+    search_group(weights, M, planes, ones, M, zeros, M, group, N, M, ws, N * M, paths, out, 3);
     return (Split){(uint32_t)out[0], out[1], (unsigned)out[2]};
 }
 static Divide *const methods[] = {plain_search, search};

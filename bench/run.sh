@@ -11,7 +11,9 @@ alone port "method search" <<'RT'
 #![tactic(auto)]
 ghost use Rattle.std.specs.Prelude.{◌≤◌, ◌<◌, length};
 ghost use Rattle.method.specs.Flow.{arc_count};
-ghost use Rattle.search.specs.Search.{cols_of, Given, Lent};
+ghost use Rattle.search.specs.Search.{cols_of, Given};
+
+use search::Lists;
 
 fn wide(x: u32) -> u64 {
     x as u64
@@ -33,19 +35,17 @@ pub extern "C" fn search_group(
     n: usize,
     m: usize,
     ws: &mut [i32],
-    joined: &mut [u64; 256],
-    limits: &mut [u32; 320],
-    offsets: &mut [u16; 257],
-    used: &mut [u32; 256],
     tree: &mut [u32; 256],
     out: &mut [u64],
 )
     requires { Given weights.now planes.now ones.now zeros.now group n m
         × (arc_count m (cols_of weights.now ones.now zeros.now) group ≤ length ws.old)
-        × Lent joined.old limits.old offsets.old used.old tree.old
         × (3 ≤ length out.old) }
 {
-    let found = search::divide(weights, planes, ones, zeros, group, n, m, ws, joined, limits, offsets, used, tree);
+    let mut lists = Lists::new();
+    lists.tree = *tree;
+    let found = search::divide(weights, planes, ones, zeros, group, n, m, ws, &mut lists);
+    *tree = lists.tree;
     put(out, 0, wide(found.cost));
     put(out, 1, found.side);
     put(out, 2, found.other as u64);
