@@ -13,7 +13,7 @@
  * written must not overlap anything else that the same call is given.
  *
  * Stack, in this library: a call of the build takes 26,176 bytes at most, of the
- * tree 26,224, of the flips 27,328, of the split 11,824, of the reading 8,920,
+ * tree 26,224, of the flips 27,344, of the split 11,824, of the reading 8,920,
  * of the writing 7,992, of the score 3,544, of the check 88. Measured on x86-64
  * for 64 taxa and 256 columns, the most there can be; a library linked another
  * way may take more (a build alone: 34,096). Every release keeps below 40 KiB for
