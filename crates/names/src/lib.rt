@@ -36,11 +36,14 @@ fn any_name() -> Varying
     }
 }
 
-// Whether a byte may stand in a name. (Most are small letters, so these are told first.)
+// Whether a byte may stand in a name. (Most are letters, which are told first, and then digits.)
 fn may_stand(byte: u8) -> bool
     ensures { result ≡ is_letter byte }
 {
-    if b'a' <= byte && byte <= b'z' {
+    if b'a' <= byte && byte <= b'z' || b'A' <= byte && byte <= b'Z' {
+        return true;
+    }
+    if b'0' <= byte && byte <= b'9' {
         return true;
     }
     grammar::is_letter(byte)
