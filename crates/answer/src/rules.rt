@@ -79,17 +79,16 @@ fn compatible(x: u64, y: u64) -> bool
     subset(x, y) || subset(y, x) || common(x, y) == 0
 }
 
-// Whether x is so with each of the first k groups.
+// Whether x is so with each of the first k groups. (No early return, so that the compiler can look at several at once: docs/DECISIONS.md.)
 fn compatible_all(taxa: &[u64; 63], x: u64, k: usize) -> bool
     requires { k ≤ 63 }
     ensures { result ≡ rules.compatible_all taxa.now x k }
 {
+    let mut fits = true;
     for i in 0..k {
-        if !compatible(taxa[i], x) {
-            return false;
-        }
+        fits &= compatible(taxa[i], x);
     }
-    true
+    fits
 }
 
 // Group i, judged against those before it.

@@ -29,7 +29,7 @@ fn same_names(text: &[u8], a: usize, size: usize, b: usize, other: usize) -> boo
 }
 
 impl Book {
-    // The number of a name among the first n taxa, or n where it is none of theirs. (Never inlined: what few names need would take registers from all.)
+    // The number of a name among the first n taxa, or n where it is none of theirs. (Never inlined: in the reader's loop it made short names slower, docs/DECISIONS.md.)
     #[inline(never)]
     pub fn number_of(&self, text: &[u8], n: usize, at: usize, size: usize) -> usize
         requires { Placed text.now self.now.starts self.now.sizes n × (at + size ≤ length text.now) }
